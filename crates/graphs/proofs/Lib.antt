@@ -1,0 +1,11 @@
+-- The laws of graphs, loops, lightest sets, components and the refusal table.
+pub mod Extra
+pub mod Lists
+pub mod Walks
+pub mod Loops
+pub mod Lightest
+pub mod Reach
+pub mod Parts
+pub mod Lowest
+pub mod Components
+pub mod Tables

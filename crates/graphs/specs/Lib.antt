@@ -1,0 +1,4 @@
+pub mod Graph
+pub mod Light
+pub mod Components
+pub mod Refusals

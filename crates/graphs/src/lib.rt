@@ -1,0 +1,56 @@
+// The checks that every operation makes first, and what a refusal is.
+ghost use mathlib.Core.Path.{_≡_};
+ghost use Prim.Native.Nat.{_≤_};
+ghost use lib.ListN.{length};
+ghost use Rattle.graphs.specs.Refusals.{first, wide, checks, checkRefusal};
+ghost use Rattle.masks.specs.Sets.{lowest};
+use masks::{Mask, Vertex};
+
+// A refusal: its number in the table, and its place.
+pub struct Refusal {
+    pub number: u64,
+    pub place: u64,
+}
+
+pub enum Checked {
+    Passed,
+    Refused(Refusal),
+}
+
+// Refusals 1, 2 and 3, in this order. An operation without costs passes the number of rows for theirs.
+pub fn check(rows: &[u64], costs: usize) -> Checked
+    ensures { λ r. ⌜ checkRefusal r ≡ first (checks (now (rows .entry)) costs) ⌝ }
+{
+    let n = rows.len();
+    if 64 < n {
+        return Checked::Refused(Refusal { number: 1, place: 0 });
+    }
+    if costs != n {
+        return Checked::Refused(Refusal { number: 2, place: 0 });
+    }
+    let row = lowest_wide(rows);
+    if row < n {
+        return Checked::Refused(Refusal {
+            number: 3,
+            place: row as u64,
+        });
+    }
+    Checked::Passed
+}
+
+// The lowest row with a bit at the number of rows or above, and that number where there is none.
+fn lowest_wide(rows: &[u64]) -> usize
+    requires { ⌜ length (now rows) ≤ 64 ⌝ }
+    ensures { λ r. ⌜ r ≡ lowest (length (now (rows .entry))) (wide (now (rows .entry))) ⌝ }
+{
+    let n = rows.len();
+    let all = Mask::below(n);
+    let mut v = 0;
+    while v < n {
+        if !Mask::row(rows, Vertex(v)).without(all).is_empty() {
+            return v;
+        }
+        v += 1;
+    }
+    n
+}
