@@ -42,13 +42,13 @@ pub record Filled (d s : List ℕ) (n i : ℕ) (l : List ℕ) : Type 0 where
   pub list : l ≡ filling d s i
 
 pub filled-none : (d s : List ℕ) (n : ℕ) → Filled d s n 0 d
-filled-none d s n = record {inner = omega arith; list = refl}
+filled-none d s n = record { inner = omega arith; list = refl }
 
 pub filled-more : (d s l : List ℕ) (n i x : ℕ) → length s ≡ n → n ≤ length d → i < n → x ≡ getD s i 0 → Filled d s n i l → Filled d s n (i + 1) (set l i x)
 filled-more d s l n i x e h k y f =
     record {
       inner = omega arith;
-      list = ap₂ (λ (m : List ℕ) (z : ℕ). set m i z) (f .list) y ∙ filling-more d s i (omega arith) (omega (arith, e))
+      list = ap₂ (λ (m : List ℕ) (z : ℕ). set m i z) (f .list) y ∙ filling-more d s i (omega arith) (omega (arith, e));
     }
 
 pub filled-length : {d s l : List ℕ} {n i : ℕ} → length s ≡ n → n ≤ length d → Filled d s n i l → length l ≡ length d

@@ -103,7 +103,7 @@ numbers-spelled k [] rest h = refl
 numbers-spelled k (x ∷ xs) rest h =
     let e : (bytes k x ++ spelled k xs) ++ rest ≡ bytes k x ++ (spelled k xs ++ rest) = append-assoc (bytes k x) (spelled k xs) rest in
     let f : value (take k (bytes k x ++ (spelled k xs ++ rest))) ≡ x =
-          ap value (take-at (bytes k x) (spelled k xs ++ rest) k (bytes-length k x)) ∙ value-bytes k x (h 0) in
+    ap value (take-at (bytes k x) (spelled k xs ++ rest) k (bytes-length k x)) ∙ value-bytes k x (h 0) in
     let g : drop k (bytes k x ++ (spelled k xs ++ rest)) ≡ spelled k xs ++ rest = drop-at (bytes k x) (spelled k xs ++ rest) k (bytes-length k x) in
     rw (e, f, g) (ap (λ (l : List ℕ). x ∷ l) (numbers-spelled k xs rest (λ v. h (suc v))))
 
@@ -115,6 +115,11 @@ octets-take zero bs o i = omega arith
 octets-take (suc k) [] o i = o i
 octets-take (suc k) (b ∷ bs) o zero = o 0
 octets-take (suc k) (b ∷ bs) o (suc i) = octets-take k bs (λ j. o (suc j)) i
+
+-- the first k bytes are those of their number
+pub bytes-part : (k : ℕ) (bs : List ℕ) → Octets bs → k ≤ length bs → bytes k (value (take k bs)) ≡ take k bs
+bytes-part k bs o l =
+    ap (λ (i : ℕ). bytes i (value (take k bs))) (sym (length-take-le k bs l)) ∙ bytes-value (take k bs) (octets-take k bs o)
 
 pub part-lt : (k : ℕ) (bs : List ℕ) → Octets bs → value (take k bs) < 256 ^ k
 part-lt k bs o = lt-of-lt-of-le (value-lt (take k bs) (octets-take k bs o)) (pow-le-pow-right (lit< tt) (rw length-take (omega arith)))
@@ -131,7 +136,5 @@ unfolding numbers spelled
 spelled-numbers k zero bs o l = rw mul-zero
 spelled-numbers k (suc m) bs o l =
     let e : k * suc m ≡ k + k * m = omega (arith, mul-suc k m) in
-    let t : length (take k bs) ≡ k = length-take-le k bs (omega arith) in
-    let f : bytes k (value (take k bs)) ≡ take k bs = ap (λ (i : ℕ). bytes i (value (take k bs))) (sym t) ∙ bytes-value (take k bs) (octets-take k bs o) in
     let g : k * m ≤ length (drop k bs) = rw length-drop (omega arith) in
-    rw (e, take-add k (k * m) bs, f, spelled-numbers k m (drop k bs) (octets-drop k bs o) g)
+    rw (e, take-add k (k * m) bs, bytes-part k bs o (omega arith), spelled-numbers k m (drop k bs) (octets-drop k bs o) g)

@@ -14,7 +14,7 @@ pub put-next : (p xs ys : List ℕ) (a e : ℕ) → length p ≡ a → a ≤ e �
 put-next p xs ys a e l h =
     let k : a + (e - a) ≡ e = omega arith in
     let after : drop (e - a) (drop a (p ++ drop a xs)) ≡ drop e xs =
-          ap (drop (e - a)) (drop-at p (drop a xs) a l) ∙ drop-drop (e - a) a xs ∙ ap (λ (j : ℕ). drop j xs) k in
+    ap (drop (e - a)) (drop-at p (drop a xs) a l) ∙ drop-drop (e - a) a xs ∙ ap (λ (j : ℕ). drop j xs) k in
     ap₂ (λ (b t : List ℕ). b ++ (ys ++ t)) (take-at p (drop a xs) a l) after ∙ sym (append-assoc p ys (drop e xs))
 
 -- three pieces

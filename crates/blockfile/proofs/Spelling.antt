@@ -17,7 +17,7 @@ pub record Spelt (k : ℕ) (d xs : List ℕ) (i : ℕ) (l : List ℕ) : Type 0 w
   pub list : l ≡ filling d (spelled k xs) (k * i)
 
 pub spelt-none : (k : ℕ) (d xs : List ℕ) → Spelt k d xs 0 d
-spelt-none k d xs = record {inner = omega arith; list = rw mul-zero}
+spelt-none k d xs = record { inner = omega arith; list = rw mul-zero }
 
 pub spelt-more : (k : ℕ) (d xs l l′ : List ℕ) (i x : ℕ) → length d ≡ k * length xs → i < length xs → x ≡ getD xs i 0 → Spelt k d xs i l
     → l′ ≡ paste l (k * i) (bytes k x) k → Spelt k d xs (i + 1) l′
@@ -28,10 +28,10 @@ spelt-more k d xs l l′ i x e h y s p =
     record {
       inner = omega arith;
       list =
-        p
-        ∙ ap (λ (z : List ℕ). paste z (k * i) (bytes k x) k) (s .list)
-        ∙ filling-part d (spelled k xs) (bytes k x) (k * i) k (omega arith) (omega (arith, spelled-length k xs)) b
-        ∙ ap (filling d (spelled k xs)) (q ∙ ap (λ (j : ℕ). k * j) (sym (add-one i)))
+          p
+          ∙ ap (λ (z : List ℕ). paste z (k * i) (bytes k x) k) (s .list)
+          ∙ filling-part d (spelled k xs) (bytes k x) (k * i) k (omega arith) (omega (arith, spelled-length k xs)) b
+          ∙ ap (filling d (spelled k xs)) (q ∙ ap (λ (j : ℕ). k * j) (sym (add-one i)));
     }
 
 pub spelt-length : (k : ℕ) {d xs l : List ℕ} {i : ℕ} → length d ≡ k * length xs → Spelt k d xs i l → length l ≡ length d

@@ -11,7 +11,7 @@ use lib.ListN.{length, getD, take, drop, replicate, length-drop}
 use lib.Seq.{take-at, take-all}
 use Rattle.graphs.specs.Refusals.{Line, first, tooMany, outside, checks}
 use Rattle.graphs.specs.declared.Refusal.{Refusal}
-use Rattle.graphs.proofs.Tables.{first-off, first-rest, first-none, first-some}
+use Rattle.graphs.proofs.Tables.{first-off, first-rest, first-before, first-none, first-some}
 use Rattle.blockfile.specs.Layout.{numbers, count, fileCosts, fileRows, layout}
 use Rattle.blockfile.specs.Promise.{foreign, otherVersion, headerLines, bodyLines, readLines, writeLines, otherLength, tooShort, ReadPromise, WritePromise}
 use Rattle.blockfile.specs.declared.Reading.the-variants as reading
@@ -21,15 +21,15 @@ use Rattle.blockfile.proofs.Numbers.{numbers-length}
 -- a refusal that is the first line given, with nothing written
 pub read-refused : (file costs rows : List ℕ) (r : Refusal) → first (readLines file (length costs) (length rows)) ≡ some r
     → ReadPromise file costs rows (reading.Refused r) costs rows
-read-refused file costs rows r e = record {refusal = sym e; effect = (refl, refl)}
+read-refused file costs rows r e = record { refusal = sym e; effect = (refl, refl) }
 
 pub write-refused : (rows costs out : List ℕ) (r : Refusal) → first (writeLines rows (length costs) (length out)) ≡ some r
     → WritePromise rows costs out (writing.Refused r) out
-write-refused rows costs out r e = record {refusal = sym e; effect = refl}
+write-refused rows costs out r e = record { refusal = sym e; effect = refl }
 
 -- the number 8
 abbrev pub short : Refusal
-short = record {number = 8; place = 0}
+short = record { number = 8; place = 0 }
 
 first-short : (x : Bool) → x ≡ true → first (tooShort x ∷ []) ≡ some short
 first-short x e = rw e
@@ -44,6 +44,12 @@ header-small file e =
     let e₃ = first-rest (otherVersion file) (tooMany (count file) ∷ []) e₂ in
     ltb-false 64 (count file) (first-off (tooMany (count file)) [] e₃)
 
+-- a block that was read has at most 64 flip-flops
+pub block-small : (file costs rows : List ℕ) (n : ℕ) (costs′ rows′ : List ℕ) → ReadPromise file costs rows (reading.Block n) costs′ rows′ → n ≤ 64
+block-small file costs rows n costs′ rows′ p =
+    let lines = bodyLines file (length costs) (length rows) in
+    omega (arith, p .effect .0, header-small file (first-before (headerLines file) lines (sym (p .refusal))))
+
 -- ---- the reader, past a header that is accepted
 
 -- an output is too short for the file's block
@@ -51,7 +57,7 @@ abbrev pub lacks : List ℕ → ℕ → ℕ → Bool
 lacks file costs rows = ltb costs (count file) || ltb rows (count file)
 
 module _ (file : List ℕ) (costs rows : ℕ) (header : first (headerLines file) ≡ none) where
-  pub read-7 : (length file ≡ 6 + 12 * count file → ⊥) → first (readLines file costs rows) ≡ some (record {number = 7; place = 0})
+  pub read-7 : (length file ≡ 6 + 12 * count file → ⊥) → first (readLines file costs rows) ≡ some (record { number = 7; place = 0 })
   read-7 d = first-none (headerLines file) (bodyLines file costs rows) header ∙ rw (ne-eqb _ _ d)
 
   module _ (long : length file ≡ 6 + 12 * count file) where

@@ -21,19 +21,19 @@ use Rattle.blockfile.specs.declared.Writing.the-variants as writing
 -- 5: "file shorter than 6 bytes, or first three not `FVG`"
 abbrev pub foreign : List ℕ → Line
 foreign file =
-    record {given = ltb (length file) 6 || not (eqb (getD file 0 0) 70 && eqb (getD file 1 0) 86 && eqb (getD file 2 0) 71); number = 5; place = 0}
+    record { given = ltb (length file) 6 || not (eqb (getD file 0 0) 70 && eqb (getD file 1 0) 86 && eqb (getD file 2 0) 71); number = 5; place = 0 }
 
 -- 6: "file version not 1"
 abbrev pub otherVersion : List ℕ → Line
-otherVersion file = record {given = not (eqb (version file) 1); number = 6; place = 0}
+otherVersion file = record { given = not (eqb (version file) 1); number = 6; place = 0 }
 
 -- 7: "file length not 6 + 12n"
 abbrev pub otherLength : List ℕ → Line
-otherLength file = record {given = not (eqb (length file) (6 + 12 * count file)); number = 7; place = 0}
+otherLength file = record { given = not (eqb (length file) (6 + 12 * count file)); number = 7; place = 0 }
 
 -- 8: "a lent output is too short"
 abbrev pub tooShort : Bool → Line
-tooShort given = record {given = given; number = 8; place = 0}
+tooShort given = record { given = given; number = 8; place = 0 }
 
 -- a header: 5, 6, 1. "read 5, 6, 1, 7, 3, 8"
 abbrev pub headerLines : List ℕ → List Line

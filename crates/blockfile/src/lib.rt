@@ -1,6 +1,7 @@
 // Block files: a reader and a writer.
 mod bytes;
 mod parts;
+
 ghost use mathlib.Core.Path.{_≡_};
 ghost use mathlib.Core.Option.{none};
 ghost use Prim.Native.Nat.{_≤_};
@@ -8,8 +9,14 @@ ghost use Rattle.blockfile.specs.Layout.{count};
 ghost use Rattle.blockfile.specs.Promise.{HeaderPromise, ReadPromise, WritePromise, headerLines};
 ghost use Rattle.graphs.specs.Refusals.{first};
 use bytes::number_at;
-use graphs::{Checked, Refusal};
-use parts::{fill_costs, fill_rows, rows_of, write_costs, write_heading, write_rows};
+use graphs::Checked;
+use graphs::Refusal;
+use parts::fill_costs;
+use parts::fill_rows;
+use parts::rows_of;
+use parts::write_costs;
+use parts::write_heading;
+use parts::write_rows;
 
 // What a header holds: the number of flip-flops, or why the file is no block.
 pub enum Header {
@@ -34,17 +41,29 @@ pub fn read_header(file: &[u8]) -> Header
     ensures { λ r. ⌜ HeaderPromise (now (file .entry)) r ⌝ }
 {
     if file.len() < 6 {
-        return Header::Refused(Refusal { number: 5, place: 0 });
+        return Header::Refused(Refusal {
+            number: 5,
+            place: 0,
+        });
     }
     if file[0] != b'F' || file[1] != b'V' || file[2] != b'G' {
-        return Header::Refused(Refusal { number: 5, place: 0 });
+        return Header::Refused(Refusal {
+            number: 5,
+            place: 0,
+        });
     }
     if number_at(file, 3, 2) != 1 {
-        return Header::Refused(Refusal { number: 6, place: 0 });
+        return Header::Refused(Refusal {
+            number: 6,
+            place: 0,
+        });
     }
     let n = number_at(file, 5, 1);
     if 64 < n {
-        return Header::Refused(Refusal { number: 1, place: 0 });
+        return Header::Refused(Refusal {
+            number: 1,
+            place: 0,
+        });
     }
     Header::Count(n as usize)
 }
@@ -67,7 +86,10 @@ fn read_body(file: &[u8], n: usize, costs: &mut [u32], rows: &mut [u64]) -> Read
 {
     let start = 6 + 4 * n;
     if file.len() != start + 8 * n {
-        return Reading::Refused(Refusal { number: 7, place: 0 });
+        return Reading::Refused(Refusal {
+            number: 7,
+            place: 0,
+        });
     }
     let found = rows_of(&file[start..], n);
     let checked = graphs::check(&found[..n], n);
@@ -75,7 +97,10 @@ fn read_body(file: &[u8], n: usize, costs: &mut [u32], rows: &mut [u64]) -> Read
         return Reading::Refused(refusal);
     }
     if costs.len() < n || rows.len() < n {
-        return Reading::Refused(Refusal { number: 8, place: 0 });
+        return Reading::Refused(Refusal {
+            number: 8,
+            place: 0,
+        });
     }
     fill_costs(&file[6..], n, costs);
     fill_rows(&found[..n], rows);
@@ -94,7 +119,10 @@ pub fn write(rows: &[u64], costs: &[u32], out: &mut [u8]) -> Writing
     let start = 6 + 4 * n;
     let end = start + 8 * n;
     if out.len() < end {
-        return Writing::Refused(Refusal { number: 8, place: 0 });
+        return Writing::Refused(Refusal {
+            number: 8,
+            place: 0,
+        });
     }
     write_heading(n, &mut out[..6]);
     write_costs(costs, &mut out[6..start]);

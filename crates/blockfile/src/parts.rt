@@ -4,7 +4,8 @@ ghost use mathlib.Core.List.{_++_};
 ghost use Prim.Native.Nat.{_+_, _-_, _*_, _≤_, _<_};
 ghost use lib.ListN.{length, drop, replicate};
 ghost use Rattle.blockfile.specs.Layout.{heading, spelled, numbers};
-use super::bytes::{number_at, put_number};
+use super::bytes::number_at;
+use super::bytes::put_number;
 
 // The n rows of a file, out of the part that starts with them.
 pub fn rows_of(part: &[u8], n: usize) -> [u64; 64]

@@ -14,7 +14,8 @@ use Rattle.masks.proofs.Tests.{T-and, and-T}
 use Rattle.graphs.specs.Graph.{edge, plain, Of, Walk}
 use Rattle.graphs.specs.Light.{Meets, Lightest}
 use Rattle.graphs.specs.Components.{every, Component, Lowest, Ascending, Components, inside}
-use Rattle.graphs.proofs.Extra.{same-members, members-lt, those-iff, those-none}
+use Rattle.masks.proofs.Bits.{same-members}
+use Rattle.masks.proofs.Those.{members-lt, those-iff, those-none}
 use Rattle.graphs.proofs.Lowest.{lowest-of, lowest-one, ascending-cons, ascending-rest, ascending-all, ascending-unique}
 use Rattle.graphs.proofs.Walks.{source-lt, target-lt, join, widen}
 use Rattle.graphs.proofs.Loops.{RowsFit, meets-hits, edge-from, edge-to-lt}

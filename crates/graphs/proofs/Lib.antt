@@ -1,5 +1,4 @@
 -- The laws of graphs, loops, lightest sets, components and the refusal table.
-pub mod Extra
 pub mod Lists
 pub mod Walks
 pub mod Loops

@@ -183,3 +183,21 @@ swap-lighter c n u v lu lv cheap S hv = go (bit R u) refl cheap
     go false e (inr d) =
         let p : 2 ^ u < 2 ^ v = pow-lt (d .1) in
         inr (omega (arith, cost, weight-new c n R u lu e), omega (arith, cut-add S v hv, put-new R u e))
+
+-- v added to both sets changes no order
+pub put-order : (c : ℕ → ℕ) (n v : ℕ) → v < n → (S R : ℕ) → bit S v ≡ false → bit R v ≡ false → AsLight c n S R ↔ AsLight c n (put S v) (put R v)
+put-order c n v lv S R s r = (up, down)
+  where
+    ws : weight c n (put S v) ≡ weight c n S + c v
+    ws = weight-new c n S v lv s
+
+    wr : weight c n (put R v) ≡ weight c n R + c v
+    wr = weight-new c n R v lv r
+
+    up : AsLight c n S R → AsLight c n (put S v) (put R v)
+    up (inl a) = inl (omega (arith, ws, wr))
+    up (inr a) = inr (omega (arith, ws, wr), omega (arith, put-new S v s, put-new R v r))
+
+    down : AsLight c n (put S v) (put R v) → AsLight c n S R
+    down (inl a) = inl (omega (arith, ws, wr))
+    down (inr a) = inr (omega (arith, ws, wr), omega (arith, put-new S v s, put-new R v r))

@@ -16,7 +16,7 @@ use Rattle.masks.proofs.Bits.{bit-or, bit-and, bit-zero}
 use Rattle.graphs.specs.Graph.{Of, Walk, edge-to, step-to}
 use Rattle.graphs.specs.Light.{left}
 use Rattle.graphs.specs.Components.{inside}
-use Rattle.graphs.proofs.Extra.{apart-add, apart-weight, within-le, within-weight}
+use Rattle.masks.proofs.Weights.{apart-add, apart-weight, within-le, within-weight}
 use Rattle.graphs.proofs.Lists.{Of-from}
 use Rattle.graphs.proofs.Walks.{start-kept, snoc, carry, widen}
 use Rattle.graphs.proofs.Loops.{Hits}
@@ -52,7 +52,7 @@ joined-lt n (S ∷ Ss) h = or-lt n S (joined Ss) (h S (inl refl)) (joined-lt n S
 
 -- ---- walks inside a part
 
-inside-edge : (E : ℕ → ℕ → Bool) (C u w : ℕ) → T (inside E C u w) → T (bit C u) × T (bit C w) × T (E u w)
+pub inside-edge : (E : ℕ → ℕ → Bool) (C u w : ℕ) → T (inside E C u w) → T (bit C u) × T (bit C w) × T (E u w)
 inside-edge E C u w t =
     let p = T-and (bit C u && bit C w) (E u w) t in
     let q = T-and (bit C u) (bit C w) (p .0) in

@@ -6,10 +6,10 @@ use mathlib.Core.List.{List, [], _∷_, _++_}
 use mathlib.Core.Option.{Option, none, some}
 use Prim.Native.Nat.{ℕ, _≤_, _<_, _^_}
 use native.Mathlib.Omega.{arith}
-use borrow.Author.Tests.{le-ltb, eq-eqb, ltb-false, leb-false, eqb-true, not-false}
+use borrow.Author.Tests.{le-ltb, lt-leb, eq-eqb, ltb-false, leb-false, eqb-true, not-false}
 use lib.ListN.{length}
 use Rattle.masks.specs.Sets.{pick, lowest}
-use Rattle.masks.proofs.Lowest.{lowest-under}
+use Rattle.masks.proofs.Lowest.{lowest-none, lowest-under}
 use Rattle.graphs.specs.Refusals.{Line, first, tooMany, unequal, wide, outside, checks}
 use Rattle.graphs.specs.declared.Refusal.{Refusal}
 use Rattle.graphs.proofs.Loops.{RowsFit}
@@ -21,11 +21,16 @@ first-off l ls e = go (l .given) refl
     go : (x : Bool) → l .given ≡ x → l .given ≡ false
     go false g = g
     go true g =
-        let f : _≡_ {A = Option Refusal} (some (record {number = l .number; place = l .place})) none = rw g at e in
+        let f : _≡_ {A = Option Refusal} (some (record { number = l .number; place = l .place })) none = rw g at e in
         absurd (let z : _≡_ {A = ℕ} 0 1 = cc in omega arith)
 
 pub first-rest : (l : Line) (ls : List Line) → first (l ∷ ls) ≡ none → first ls ≡ none
 first-rest l ls e = rw (first-off l ls e) at e
+
+-- so is none of a first part of it
+pub first-before : (ls ms : List Line) → first (ls ++ ms) ≡ none → first ls ≡ none
+first-before [] ms e = refl
+first-before (l ∷ ls) ms e = rw (first-off l (ls ++ ms) e) (first-before ls ms (first-rest l (ls ++ ms) e))
 
 -- none of the first list is given
 pub first-none : (ls ms : List Line) → first ls ≡ none → first (ls ++ ms) ≡ first ms
@@ -58,6 +63,16 @@ outside-off rows g v l =
     let all : length rows ≤ lowest (length rows) (wide rows) = ltb-false _ _ g in
     leb-false _ _ (lowest-under (length rows) (wide rows) v (omega arith))
 
+-- and where they fit it is not given
+pub outside-none : (rows : List ℕ) → RowsFit rows → first (outside rows ∷ []) ≡ none
+outside-none rows fit =
+    let all : lowest (length rows) (wide rows) ≡ length rows = lowest-none (length rows) (wide rows) (λ v l. lt-leb _ _ (fit v l)) in
+    rw (le-ltb (lowest (length rows) (wide rows)) (length rows) (omega arith))
+
+-- none of 1, 2 and 3 is given
+pub checks-none : (rows : List ℕ) (costs : ℕ) → length rows ≡ costs → costs ≤ 64 → RowsFit rows → first (checks rows costs) ≡ none
+checks-none rows costs e h fit = checks-rows rows costs e h ∙ outside-none rows fit
+
 -- what a block that passes the checks has
 pub record Checks (rows : List ℕ) (costs : ℕ) : Type 0 where
   pub few : length rows ≤ 64
@@ -71,5 +86,5 @@ checks-passed rows costs e =
     record {
       few = ltb-false _ _ (first-off (tooMany (length rows)) (unequal costs (length rows) ∷ outside rows ∷ []) e);
       even = eqb-true _ _ (not-false _ (first-off (unequal costs (length rows)) (outside rows ∷ []) e₂));
-      fit = outside-off rows (first-off (outside rows) [] e₃)
+      fit = outside-off rows (first-off (outside rows) [] e₃);
     }

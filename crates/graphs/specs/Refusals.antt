@@ -19,15 +19,15 @@ pub record Line : Type 0 where
 -- of an operation's lines, in its order, the first that is given
 abbrev pub first : List Line → Option Refusal
 first [] = none
-first (l ∷ ls) = pick (l .given) (some (record {number = l .number; place = l .place})) (first ls)
+first (l ∷ ls) = pick (l .given) (some (record { number = l .number; place = l .place })) (first ls)
 
 -- 1: "more than 64 rows, or a file count above 64"
 abbrev pub tooMany : ℕ → Line
-tooMany n = record {given = ltb 64 n; number = 1; place = 0}
+tooMany n = record { given = ltb 64 n; number = 1; place = 0 }
 
 -- 2: "costs and rows differ in number"
 abbrev pub unequal : ℕ → ℕ → Line
-unequal costs n = record {given = not (eqb costs n); number = 2; place = 0}
+unequal costs n = record { given = not (eqb costs n); number = 2; place = 0 }
 
 -- "a row has a bit at n or above", where there are n rows
 abbrev pub wide : List ℕ → ℕ → Bool
@@ -35,7 +35,7 @@ wide rows v = leb (2 ^ length rows) (getD rows v 0)
 
 -- 3: that, with the "lowest such row"
 abbrev pub outside : List ℕ → Line
-outside rows = record {given = ltb (lowest (length rows) (wide rows)) (length rows); number = 3; place = lowest (length rows) (wide rows)}
+outside rows = record { given = ltb (lowest (length rows) (wide rows)) (length rows); number = 3; place = lowest (length rows) (wide rows) }
 
 -- the refusals 1, 2 and 3, for rows and a number of costs
 abbrev pub checks : List ℕ → ℕ → List Line

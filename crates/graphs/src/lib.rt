@@ -4,7 +4,8 @@ ghost use Prim.Native.Nat.{_≤_};
 ghost use lib.ListN.{length};
 ghost use Rattle.graphs.specs.Refusals.{first, wide, checks, checkRefusal};
 ghost use Rattle.masks.specs.Sets.{lowest};
-use masks::{Mask, Vertex};
+use masks::Mask;
+use masks::Vertex;
 
 // A refusal: its number in the table, and its place.
 pub struct Refusal {
@@ -23,10 +24,16 @@ pub fn check(rows: &[u64], costs: usize) -> Checked
 {
     let n = rows.len();
     if 64 < n {
-        return Checked::Refused(Refusal { number: 1, place: 0 });
+        return Checked::Refused(Refusal {
+            number: 1,
+            place: 0,
+        });
     }
     if costs != n {
-        return Checked::Refused(Refusal { number: 2, place: 0 });
+        return Checked::Refused(Refusal {
+            number: 2,
+            place: 0,
+        });
     }
     let row = lowest_wide(rows);
     if row < n {

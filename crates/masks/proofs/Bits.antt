@@ -1,16 +1,18 @@
 -- The binary digits of a number, as the members of a set: two sets with the same members are equal, and what `or`, `and`, a shift and a complement do
 -- to a member. Shown by induction on the digit, with the powers of two as unknowns. Assumes nothing.
 use mathlib.Core.Path.{_≡_, refl, sym, ap, _∙_, subst}
-use mathlib.Core.Logic.{_≢_}
+use mathlib.Core.Logic.{_≢_, _↔_}
 use mathlib.Core.Bool.{Bool, true, false, not, _&&_, _||_, true≢false}
 use Prim.Native.Nat.{ℕ, zero, suc, _+_, _-_, _*_, _/_, _%_, _^_, _≤_, _<_, max, min}
 use native.Mathlib.Omega.{arith}
 use native.Mathlib.Nat.{pow-suc, div-one, mul-assoc, mul-comm, add-comm}
 use native.Mathlib.Numerals.{one-add}
+use native.Mathlib.Decide.{decLt}
 use lib.Dec.{T, eqb, eqb→eq}
-use lib.Pow.{shr-shr, high}
+use lib.Pow.{shr-shr, high, pow-pos, pow-mono}
 use lib.Bits.{bitAnd, bitOr, and-step, or-step, and-shr, or-shr}
 use Rattle.masks.specs.Sets.{bit}
+use Rattle.masks.proofs.Tests.{iff-eq, T-false}
 
 -- ---- digits, as numbers
 
@@ -246,3 +248,39 @@ comp-bit n S v h l = go (bit S v) refl
     go : (x : Bool) → bit S v ≡ x → bit (2 ^ n - 1 - S) v ≡ not (bit S v)
     go true e = bit-false _ v (omega (arith, digit-comp n S v h l, digit-one S v e)) ∙ ap not (sym e)
     go false e = bit-true _ v (omega (arith, digit-comp n S v h l, digit-nought S v e)) ∙ ap not (sym e)
+
+-- ---- members, as tests
+
+number-lt : (m : ℕ) → m < 2 ^ m
+number-lt zero = omega arith
+number-lt (suc m) = rw pow-suc (omega (arith, number-lt m))
+
+pub same-members : (a b : ℕ) → ((v : ℕ) → T (bit a v) ↔ T (bit b v)) → a ≡ b
+same-members a b h = bit-ext (a + b) a b (below a (omega arith)) (below b (omega arith)) (λ v _. iff-eq (bit a v) (bit b v) (h v))
+  where
+    below : (m : ℕ) → m ≤ a + b → m < 2 ^ (a + b)
+    below m l = omega (arith, number-lt m, pow-mono l)
+
+-- all below n
+pub full-bit : (n v : ℕ) → v < n → bit (2 ^ n - 1) v ≡ true
+full-bit n v l = ap (λ m. bit m v) (omega arith) ∙ comp-bit n 0 v (pow-pos n) l ∙ ap not (bit-zero v)
+
+-- a member of a set of n
+pub bit-lt : (n m v : ℕ) → m < 2 ^ n → T (bit m v) → v < n
+bit-lt n m v l t = go (decLt v n)
+  where
+    go : Dec (v < n) → v < n
+    go (yes k) = k
+    go (no k) =
+        let k′ : ¬ (v < n) = k in
+        absurd (subst T (bit-high n m v l (omega arith)) t)
+
+-- a set with no member
+pub no-member : (n m : ℕ) → m < 2 ^ n → ((v : ℕ) → v < n → T (bit m v) → ⊥) → m ≡ 0
+no-member n m l h = bit-ext n m 0 l (pow-pos n) (λ v k. T-false (bit m v) (h v k) ∙ sym (bit-zero v))
+
+pub zero-member : (m v : ℕ) → m ≡ 0 → T (bit m v) → ⊥
+zero-member m v e t = subst T (ap (λ x. bit x v) e ∙ bit-zero v) t
+
+pub not-zero : (x : ℕ) → T (bit 0 x) → ⊥
+not-zero x h = subst T (bit-zero x) h

@@ -2,7 +2,9 @@
 pub mod Tests
 pub mod Bits
 pub mod Members
-pub mod Weights
-pub mod Words
-pub mod Those
 pub mod Lowest
+pub mod Those
+pub mod Weights
+pub mod Counts
+pub mod Words
+pub mod Numbers

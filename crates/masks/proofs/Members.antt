@@ -1,9 +1,11 @@
 -- A set with one member more or one less: what it holds, and how its number changes. Assumes nothing.
-use mathlib.Core.Path.{_≡_, refl, sym, ap, _∙_}
-use mathlib.Core.Logic.{_≢_}
+use mathlib.Core.Path.{_≡_, refl, sym, ap, _∙_, subst}
+use mathlib.Core.Logic.{_≢_, _⊎_, inl, inr}
 use mathlib.Core.Bool.{Bool, true, false}
 use Prim.Native.Nat.{ℕ, _+_, _-_, _^_, _≤_, _<_}
 use native.Mathlib.Omega.{arith}
+use native.Mathlib.Decide.{ℕ-discrete}
+use lib.Dec.{T}
 use Rattle.masks.specs.Sets.{bit, pick, put, cut}
 use Rattle.masks.proofs.Bits.{add-same, add-other, sub-same, bit-le, add-lt}
 
@@ -79,3 +81,31 @@ put-lt n m v h l = go (bit m v) refl
     go true e = rw (put-kept m v e) h
     go false e = rw (put-new m v e) (add-lt n m v h l e)
 
+-- ---- members, as tests
+
+-- the members of a set without v
+pub cut-keeps : (m v x : ℕ) → x ≢ v → T (bit m x) → T (bit (cut m v) x)
+cut-keeps m v x k t = subst T (sym (cut-other m v x k)) t
+
+pub cut-from : (m v x : ℕ) → T (bit (cut m v) x) → (x ≢ v) × T (bit m x)
+cut-from m v x t = (k, subst T (cut-other m v x k) t)
+  where
+    k : x ≢ v
+    k e = subst T (ap (bit (cut m v)) e ∙ cut-same m v) t
+
+pub in-put : (m v : ℕ) → T (bit (put m v) v)
+in-put m v = subst T (sym (put-same m v)) tt
+
+pub in-more : (m v x : ℕ) → T (bit m x) → T (bit (put m v) x)
+in-more m v x h = go (ℕ-discrete x v)
+  where
+    go : Dec (x ≡ v) → T (bit (put m v) x)
+    go (yes e) = subst (λ z. T (bit (put m v) z)) (sym e) (in-put m v)
+    go (no k) = subst T (sym (put-other m v x k)) h
+
+pub in-less : (m v x : ℕ) → T (bit (put m v) x) → (x ≡ v) ⊎ T (bit m x)
+in-less m v x h = go (ℕ-discrete x v)
+  where
+    go : Dec (x ≡ v) → (x ≡ v) ⊎ T (bit m x)
+    go (yes e) = inl e
+    go (no k) = inr (subst T (put-other m v x k) h)

@@ -1,8 +1,10 @@
 -- Tests, as Bools and as facts: from a fact to its test and back. Assumes nothing.
-use mathlib.Core.Path.{_≡_, refl, subst}
-use mathlib.Core.Logic.{_≢_, _⊎_, inl, inr}
+use mathlib.Core.Path.{_≡_, refl, sym, ap, subst}
+use mathlib.Core.Logic.{_≢_, _⊎_, inl, inr, _↔_}
 use mathlib.Core.Bool.{Bool, true, false, not, _&&_, _||_}
-use Prim.Native.Nat.{ℕ}
+use Prim.Native.Nat.{ℕ, zero, suc, _<_}
+use Prim.Native.Nat.{compare, Ordering, Ordering·lt, Ordering·eq, Ordering·gt, compare·zero-suc, compare·suc-zero, compare·suc-suc}
+use native.Mathlib.Omega.{arith}
 use lib.Dec.{T, eqb, eqb→eq, eqb-refl, T-not, not-T}
 
 pub and-T : (a b : Bool) → T a → T b → T (a && b)
@@ -46,3 +48,32 @@ T? false = no (λ t. t)
 pub T-no : (b : Bool) → (T b → ⊥) → T (not b)
 T-no true f = f tt
 T-no false f = tt
+
+-- two tests that pass together are equal
+pub iff-eq : (a b : Bool) → T a ↔ T b → a ≡ b
+iff-eq true b h = sym (T-true b (h .0 tt))
+iff-eq false true h = absurd (h .1 tt)
+iff-eq false false h = refl
+
+-- what each outcome says of the two numbers
+abbrev pub Stand : Ordering → ℕ → ℕ → Type 0
+Stand Ordering·lt v w = v < w
+Stand Ordering·eq v w = v ≡ w
+Stand Ordering·gt v w = w < v
+
+pub stand : (v w : ℕ) → Stand (compare v w) v w
+stand zero zero = refl
+stand zero (suc w) = rw compare·zero-suc (omega arith)
+stand (suc v) zero = rw compare·suc-zero (omega arith)
+stand (suc v) (suc w) = rw compare·suc-suc (up (compare v w) (stand v w))
+  where
+    up : (o : Ordering) → Stand o v w → Stand o (suc v) (suc w)
+    up Ordering·lt h = omega arith
+    up Ordering·eq h = ap suc h
+    up Ordering·gt h = omega arith
+
+pub T-false : (b : Bool) → (T b → ⊥) → b ≡ false
+T-false b f = T-left b (T-no b f)
+
+pub false-T : (b : Bool) → b ≡ false → T b → ⊥
+false-T b e t = subst T e t

@@ -1,14 +1,15 @@
 -- The set of those below n that pass a test: its members. Assumes nothing.
-use mathlib.Core.Path.{_≡_, refl, sym, ap, _∙_}
-use mathlib.Core.Logic.{_≢_}
+use mathlib.Core.Path.{_≡_, refl, sym, ap, _∙_, subst}
+use mathlib.Core.Logic.{_≢_, _↔_}
 use mathlib.Core.Bool.{Bool, true, false}
 use Prim.Native.Nat.{ℕ, zero, suc, _+_, _*_, _^_, _≤_, _<_}
 use native.Mathlib.Omega.{arith}
 use native.Mathlib.Nat.{pow-suc}
-use native.Mathlib.Decide.{ℕ-discrete}
+use native.Mathlib.Decide.{ℕ-discrete, decLt}
+use lib.Dec.{T}
 use lib.Pow.{pow-pos}
 use Rattle.masks.specs.Sets.{bit, pick, those}
-use Rattle.masks.proofs.Bits.{bit-high, bit-ext, add-same, add-other}
+use Rattle.masks.proofs.Bits.{bit-high, bit-ext, bit-zero, add-same, add-other, same-members}
 
 pub those-lt : (n : ℕ) (p : ℕ → Bool) → those n p < 2 ^ n
 unfolding those
@@ -40,3 +41,23 @@ those-in (suc n) p v l = go (p n) refl (ℕ-discrete v n) (those-in n p v)
 -- two tests that agree below n give one set
 pub those-ext : (n : ℕ) (p q : ℕ → Bool) → ((v : ℕ) → v < n → p v ≡ q v) → those n p ≡ those n q
 those-ext n p q h = bit-ext n (those n p) (those n q) (those-lt n p) (those-lt n q) (λ v l. those-in n p v l ∙ h v l ∙ sym (those-in n q v l))
+
+pub those-iff : (n : ℕ) (p : ℕ → Bool) (v : ℕ) → T (bit (those n p) v) ↔ ((v < n) × T (p v))
+those-iff n p v = (λ t. forth t (decLt v n), λ h. subst T (sym (those-in n p v (h .0))) (h .1))
+  where
+    forth : T (bit (those n p) v) → Dec (v < n) → (v < n) × T (p v)
+    forth t (yes l) = (l, subst T (those-in n p v l) t)
+    forth t (no k) =
+        let k′ : ¬ (v < n) = k in
+        absurd (subst T (those-out n p v (omega arith)) t)
+
+pub those-none : (n : ℕ) (p : ℕ → Bool) → (those n p ≡ 0) ↔ ((v : ℕ) → v < n → T (p v) → ⊥)
+those-none n p = (
+  λ e v l t. subst T (ap (λ m. bit m v) e ∙ bit-zero v) (those-iff n p v .1 (l, t)),
+  λ h. same-members (those n p) 0 (λ v. (λ t. let r = those-iff n p v .0 t in absurd (h v (r .0) (r .1)), λ t. absurd (subst T (bit-zero v) t))),
+)
+
+-- a set whose members are below n fits in n bits
+pub members-lt : (n m : ℕ) → ((v : ℕ) → T (bit m v) → v < n) → m < 2 ^ n
+members-lt n m h =
+    rw (same-members m (those n (bit m)) (λ v. (λ t. those-iff n (bit m) v .1 (h v t, t), λ t. those-iff n (bit m) v .0 t .1))) (those-lt n (bit m))

@@ -70,7 +70,7 @@ rows-found c =
       small = s .pre .1;
       header = s .pre .2;
       long = omega (arith, c .before .before .if1 .left, s .pre .0);
-      rows = found-rows (s .args .file .now) (c .rows-of .result) (s .args .n) (s .pre .0) (c .rows-of .ensures)
+      rows = found-rows (s .args .file .now) (c .rows-of .result) (s .args .n) (s .pre .0) (c .rows-of .ensures);
     }
 
 module _ (file found : List ℕ) (n : ℕ) (f : Found file found n) where
@@ -139,10 +139,11 @@ part-fill-costs-end : tie.Need-part-fill-costs-end
 part-fill-costs-end c = search needs
 
 fill-costs-requires : tie.Need-fill-costs-requires
-fill-costs-requires c κs =
-    (rw (length-take, length-drop) (omega (arith, rows-found (c .before .before .before .before .before .before .before .before) .long, rows-found (c .before .before .before .before .before .before .before .before) .is)),
-    c .before .before .before .if2 .left,
-    rows-found (c .before .before .before .before .before .before .before .before) .small)
+fill-costs-requires c κs = (
+  rw (length-take, length-drop) (omega (arith, rows-found (c .before .before .before .before .before .before .before .before) .long, rows-found (c .before .before .before .before .before .before .before .before) .is)),
+  c .before .before .before .if2 .left,
+  rows-found (c .before .before .before .before .before .before .before .before) .small,
+)
 
 array-share-prefix-found-2 : tie.Need-array-share-prefix-found-2
 array-share-prefix-found-2 c = part-le _ _ _ (rows-found (c .before .before .before .before .before .before .before .before .before .before .before))
@@ -171,10 +172,11 @@ returns-4 c =
     let a = r .before .before .before .before .before .before .args in
     record {
       refusal = sym (read-none (a .file .now) _ _ (f .header) (f .long) (passed (q .before .before)) (short-none _ _ _ f _ _ (q .before .if2 .left) (q .if3 .left)));
-      effect =
-        (f .is,
+      effect = (
+        f .is,
         c .before .before .before .before .before .before .before .fill-costs .ensures ∙ ap (λ (l : List ℕ). l ++ drop (a .n) (a .costs .now)) (found-costs (a .file .now) (a .n) (f .is)),
-        c .before .before .fill-rows .ensures ∙ ap₂ (λ (l : List ℕ) (k : ℕ). l ++ drop k (a .rows .now)) (f .rows) (part-length _ _ _ f))
+        c .before .before .fill-rows .ensures ∙ ap₂ (λ (l : List ℕ) (k : ℕ). l ++ drop k (a .rows .now)) (f .rows) (part-length _ _ _ f),
+      );
     }
 
 pub read-body-spec : {M : Type 1} → statement M

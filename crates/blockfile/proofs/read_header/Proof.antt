@@ -11,7 +11,7 @@ use Rattle.blockfile.proofs.read_header.Statement.{statement}
 use Rattle.blockfile.proofs.read_header.Tie as tie
 
 returns : tie.Need-returns
-returns c = record {refusal = rw (lt-ltb _ _ (c .if1 .taken)); value = tt}
+returns c = record { refusal = rw (lt-ltb _ _ (c .if1 .taken)); value = tt }
 
 shared-slice-read-if2 : tie.Need-shared-slice-read-if2
 shared-slice-read-if2 c = search needs
@@ -28,11 +28,11 @@ returns-2 c =
     let long = le-ltb _ _ (c .before .before .if1 .left) in
     record {
       refusal =
-        ⊎-elim (λ w. rw (long, ne-eqb _ _ (w .taken)))
-        (⊎-elim (λ w. rw (long, eq-eqb _ _ (w .0 .left), not-true (eqb (getD file 1 0) 86) (w .2 .taken)))
-        (λ w. rw (long, eq-eqb _ _ (w .0 .left), not-false (eqb (getD file 1 0) 86) (w .2 .left), not-true (eqb (getD file 2 0) 71) (w .4 .taken))))
-        (c .if2 .came);
-      value = tt
+          ⊎-elim (λ w. rw (long, ne-eqb _ _ (w .taken)))
+          (⊎-elim (λ w. rw (long, eq-eqb _ _ (w .0 .left), not-true (eqb (getD file 1 0) 86) (w .2 .taken)))
+          (λ w. rw (long, eq-eqb _ _ (w .0 .left), not-false (eqb (getD file 1 0) 86) (w .2 .left), not-true (eqb (getD file 2 0) 71) (w .4 .taken))))
+          (c .if2 .came);
+      value = tt;
     }
 
 number-at-requires : tie.Need-number-at-requires
@@ -42,11 +42,15 @@ number-at-requires c κs = search needs
 marked : (c : tie.Else4) → foreign (c .before .before .before .before .before .before .before .before .args .file .now) .given ≡ false
 marked c =
     let file = c .before .before .before .before .before .before .before .before .args .file .now in
-    rw (le-ltb _ _ (c .before .before .before .before .before .before .if1 .left), eq-eqb _ _ (c .before .before .before .before .if2 .left),
-    not-false (eqb (getD file 1 0) 86) (c .before .before .if3 .left), not-false (eqb (getD file 2 0) 71) (c .if4 .left))
+    rw (
+      le-ltb _ _ (c .before .before .before .before .before .before .if1 .left),
+      eq-eqb _ _ (c .before .before .before .before .if2 .left),
+      not-false (eqb (getD file 1 0) 86) (c .before .before .if3 .left),
+      not-false (eqb (getD file 2 0) 71) (c .if4 .left),
+    )
 
 returns-3 : tie.Need-returns-3
-returns-3 c = record {refusal = rw (marked (c .before .before), ← c .before .number-at .ensures, ne-eqb _ _ (c .if5 .taken)); value = tt}
+returns-3 c = record { refusal = rw (marked (c .before .before), ← c .before .number-at .ensures, ne-eqb _ _ (c .if5 .taken)); value = tt }
 
 number-at-requires-2 : tie.Need-number-at-requires-2
 number-at-requires-2 c κs = search needs
@@ -55,16 +59,16 @@ returns-4 : tie.Need-returns-4
 returns-4 c =
     record {
       refusal =
-        rw (marked (c .before .before .before .before), ← c .before .before .before .number-at .ensures, eq-eqb _ _ (c .before .before .if5 .left), ← c .before .number-at2 .ensures, lt-ltb _ _ (c .if6 .taken));
-      value = tt
+          rw (marked (c .before .before .before .before), ← c .before .before .before .number-at .ensures, eq-eqb _ _ (c .before .before .if5 .left), ← c .before .number-at2 .ensures, lt-ltb _ _ (c .if6 .taken));
+      value = tt;
     }
 
 returns-5 : tie.Need-returns-5
 returns-5 c =
     record {
       refusal =
-        rw (marked (c .before .before .before .before), ← c .before .before .before .number-at .ensures, eq-eqb _ _ (c .before .before .if5 .left), ← c .before .number-at2 .ensures, le-ltb _ _ (c .if6 .left));
-      value = c .before .number-at2 .ensures
+          rw (marked (c .before .before .before .before), ← c .before .before .before .number-at .ensures, eq-eqb _ _ (c .before .before .if5 .left), ← c .before .number-at2 .ensures, le-ltb _ _ (c .if6 .left));
+      value = c .before .number-at2 .ensures;
     }
 
 pub read-header-spec : {M : Type 1} → statement M

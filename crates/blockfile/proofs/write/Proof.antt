@@ -128,10 +128,11 @@ returns-3 c =
     let a = d .before .before .before .before .before .before .args in
     record {
       refusal = sym (write-none (a .rows .now) (length (a .costs .now)) (length (a .out .now)) (passed d) (omega (arith, h .before .before .if1 .left)));
-      effect =
-        (omega arith,
+      effect = (
+        omega arith,
         put-layout (a .out .now) (a .rows .now) (a .costs .now) (h .write-heading .last .1 .0) (k .write-costs .last .1 .0) (c .before .before .write-rows .last .1 .0)
-        (checked d .even) (h .write-heading .ensures) (k .write-costs .ensures) (c .before .before .write-rows .ensures))
+            (checked d .even) (h .write-heading .ensures) (k .write-costs .ensures) (c .before .before .write-rows .ensures),
+      );
     }
 
 pub write-spec : {M : Type 1} → statement M

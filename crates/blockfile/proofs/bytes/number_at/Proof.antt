@@ -29,7 +29,7 @@ none : (l : List ℕ) (at w : ℕ) → Read l at w w 0
 unfolding value
 none l at w =
     let e : w - w ≡ 0 = omega arith in
-    record {inner = omega arith; is = rw e; below = rw e (omega arith)}
+    record { inner = omega arith; is = rw e; below = rw e (omega arith) }
 
 -- a turn: the byte before i, and the number shifted by one byte
 more : (l : List ℕ) (at w i x b : ℕ) → 0 < i → at + w ≤ length l → b ≡ getD l (at + (i - 1)) 0 → b < 256 → Read l at w i x → Read l at w (i - 1) (x * 256 + b)
@@ -40,7 +40,7 @@ more l at w i x b p f e h r =
     record {
       inner = omega (arith, r .inner);
       is = rw j (sym (value-more l (at + (i - 1)) (w - i) (omega (arith, r .inner)) ∙ ap (λ (q : ℕ). getD l (at + (i - 1)) 0 + 256 * value (take (w - i) (drop q l))) k ∙ s));
-      below = rw (j, pow-suc) (omega (arith, r .below))
+      below = rw (j, pow-suc) (omega (arith, r .below));
     }
 
 -- there is room for one byte more

@@ -26,7 +26,7 @@ abbrev μ-loop : tie.MeasureT-loop
 μ-loop out₀ at width number rest₀ i₀ out rest i = width - i
 
 none : (o : List ℕ) (at w x : ℕ) → Put o at w x o x 0
-none o at w x = record {inner = omega arith; list = paste-zero o at (bytes w x); high = sym (div-one x)}
+none o at w x = record { inner = omega arith; list = paste-zero o at (bytes w x); high = sym (div-one x) }
 
 -- the list keeps its length
 put-length : {o : List ℕ} {at w x : ℕ} {l : List ℕ} {rest i : ℕ} → at + w ≤ length o → Put o at w x l rest i → length l ≡ length o
@@ -39,11 +39,11 @@ more o at w x l rest i h f p =
     record {
       inner = omega arith;
       list =
-        ap (λ (m : List ℕ). set m (at + i) (rest % 256)) (p .list)
-        ∙ ap (set (paste o at (bytes w x) i) (at + i)) (ap (λ (y : ℕ). y % 256) (p .high) ∙ sym (bytes-at w x i h))
-        ∙ paste-suc o at (bytes w x) i 0 (omega arith) (omega (arith, bytes-length w x))
-        ∙ ap (paste o at (bytes w x)) (sym (add-one i));
-      high = ap (λ (y : ℕ). y / 256) (p .high) ∙ div-div-eq-div-mul x (256 ^ i) 256 ∙ ap (λ (y : ℕ). x / y) (sym (pow-suc 256 i) ∙ ap (λ (j : ℕ). 256 ^ j) (sym (add-one i)))
+          ap (λ (m : List ℕ). set m (at + i) (rest % 256)) (p .list)
+          ∙ ap (set (paste o at (bytes w x) i) (at + i)) (ap (λ (y : ℕ). y % 256) (p .high) ∙ sym (bytes-at w x i h))
+          ∙ paste-suc o at (bytes w x) i 0 (omega arith) (omega (arith, bytes-length w x))
+          ∙ ap (paste o at (bytes w x)) (sym (add-one i));
+      high = ap (λ (y : ℕ). y / 256) (p .high) ∙ div-div-eq-div-mul x (256 ^ i) 256 ∙ ap (λ (y : ℕ). x / y) (sym (pow-suc 256 i) ∙ ap (λ (j : ℕ). 256 ^ j) (sym (add-one i)));
     }
 
 whole : {o : List ℕ} {at w x : ℕ} {l : List ℕ} {rest i : ℕ} → w ≤ i → Put o at w x l rest i → l ≡ paste o at (bytes w x) w

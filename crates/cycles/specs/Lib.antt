@@ -1,0 +1,4 @@
+pub mod Search
+pub mod Passes
+pub mod Needs
+pub mod Promise

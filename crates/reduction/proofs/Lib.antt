@@ -1,0 +1,11 @@
+-- The laws of the reduction.
+pub mod Model
+pub mod Worked
+pub mod Unique
+pub mod Useless
+pub mod Removal
+pub mod Folding
+pub mod States
+pub mod Next
+pub mod Runs
+pub mod Sound

@@ -1,0 +1,3 @@
+pub mod Need
+pub mod Tree
+pub mod Best

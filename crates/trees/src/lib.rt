@@ -1,0 +1,1 @@
+// Decision trees: definitions and their laws only, in specs/ and proofs/.
