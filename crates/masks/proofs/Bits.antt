@@ -251,7 +251,8 @@ comp-bit n S v h l = go (bit S v) refl
 
 -- ---- members, as tests
 
-number-lt : (m : ℕ) → m < 2 ^ m
+-- a number fits in as many bits
+pub number-lt : (m : ℕ) → m < 2 ^ m
 number-lt zero = omega arith
 number-lt (suc m) = rw pow-suc (omega (arith, number-lt m))
 

@@ -1,15 +1,17 @@
 -- The set of those below n that pass a test: its members. Assumes nothing.
 use mathlib.Core.Path.{_≡_, refl, sym, ap, _∙_, subst}
-use mathlib.Core.Logic.{_≢_, _↔_}
-use mathlib.Core.Bool.{Bool, true, false}
+use mathlib.Core.Logic.{_≢_, _⊎_, inl, inr, _↔_}
+use mathlib.Core.Bool.{Bool, true, false, _&&_}
 use Prim.Native.Nat.{ℕ, zero, suc, _+_, _*_, _^_, _≤_, _<_}
 use native.Mathlib.Omega.{arith}
 use native.Mathlib.Nat.{pow-suc}
 use native.Mathlib.Decide.{ℕ-discrete, decLt}
-use lib.Dec.{T}
+use lib.Dec.{T, leb, leb→le, le→leb}
 use lib.Pow.{pow-pos}
-use Rattle.masks.specs.Sets.{bit, pick, those}
-use Rattle.masks.proofs.Bits.{bit-high, bit-ext, bit-zero, add-same, add-other, same-members}
+use Rattle.masks.specs.Sets.{bit, pick, those, lowest}
+use Rattle.masks.proofs.Tests.{and-T, T-and}
+use Rattle.masks.proofs.Bits.{bit-high, bit-ext, bit-zero, add-same, add-other, number-lt, same-members, bit-lt}
+use Rattle.masks.proofs.Lowest.{lowest-cases}
 
 pub those-lt : (n : ℕ) (p : ℕ → Bool) → those n p < 2 ^ n
 unfolding those
@@ -61,3 +63,40 @@ those-none n p = (
 pub members-lt : (n m : ℕ) → ((v : ℕ) → T (bit m v) → v < n) → m < 2 ^ n
 members-lt n m h =
     rw (same-members m (those n (bit m)) (λ v. (λ t. those-iff n (bit m) v .1 (h v t, t), λ t. those-iff n (bit m) v .0 t .1))) (those-lt n (bit m))
+
+-- "a bit at n or above": the number is 2 ^ n or more
+pub wide-bit : (n m : ℕ) → T (leb (2 ^ n) m) ↔ ((v : ℕ) × (n ≤ v) × T (bit m v))
+wide-bit n m = (forth, back)
+  where
+    above : ℕ → Bool
+    above v = leb n v && bit m v
+
+    forth : T (leb (2 ^ n) m) → (v : ℕ) × (n ≤ v) × T (bit m v)
+    forth t = go (lowest-cases m above)
+      where
+        low : ((w : ℕ) → w < m → T (above w) → ⊥) → (v : ℕ) → T (bit m v) → v < n
+        low h v b = side (decLt v n)
+          where
+            side : Dec (v < n) → v < n
+            side (yes l) = l
+            side (no k) =
+                let k′ : ¬ (v < n) = k in
+                let l : n ≤ v = omega arith in
+                absurd (h v (bit-lt m m v (number-lt m) b) (and-T (leb n v) (bit m v) (le→leb n v l) b))
+
+        go : ((lowest m above < m) × T (above (lowest m above))) ⊎ ((lowest m above ≡ m) × ((w : ℕ) → w < m → T (above w) → ⊥)) → (v : ℕ) × (n ≤ v) × T (bit m v)
+        go (inl r) =
+            let p = T-and (leb n (lowest m above)) (bit m (lowest m above)) (r .1) in
+            (lowest m above, leb→le n (lowest m above) (p .0), p .1)
+        go (inr r) = absurd (omega (arith, leb→le (2 ^ n) m t, members-lt n m (low (r .1))))
+
+    back : (v : ℕ) × (n ≤ v) × T (bit m v) → T (leb (2 ^ n) m)
+    back r = side (decLt m (2 ^ n))
+      where
+        side : Dec (m < 2 ^ n) → T (leb (2 ^ n) m)
+        side (yes l) =
+            let k : n ≤ r .0 = r .1 in
+            absurd (omega (arith, bit-lt n m (r .0) l (r .2)))
+        side (no k) =
+            let k′ : ¬ (m < 2 ^ n) = k in
+            le→leb (2 ^ n) m (omega arith)
