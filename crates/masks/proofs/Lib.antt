@@ -5,6 +5,7 @@ pub mod Members
 pub mod Lowest
 pub mod Those
 pub mod Weights
+pub mod Order
 pub mod Counts
 pub mod Words
 pub mod Numbers
