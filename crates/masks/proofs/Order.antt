@@ -20,6 +20,6 @@ less-at zero a b ea eb same =
     half x y w e t = subst T (sym (bit-suc x w) ∙ e ∙ bit-suc y w) t
 less-at (suc v) a b ea eb same =
     let high : a / 2 < b / 2 =
-        less-at v (a / 2) (b / 2) (sym (bit-suc a v) ∙ ea) (sym (bit-suc b v) ∙ eb)
-        (λ w l. sym (bit-suc a w) ∙ same (suc w) (omega arith) ∙ bit-suc b w) in
+    less-at v (a / 2) (b / 2) (sym (bit-suc a v) ∙ ea) (sym (bit-suc b v) ∙ eb)
+    (λ w l. sym (bit-suc a w) ∙ same (suc w) (omega arith) ∙ bit-suc b w) in
     omega arith
