@@ -14,7 +14,8 @@ use Rattle.cycles.specs.Search.{targets, visit}
 use Rattle.cycles.specs.Passes.{any, each}
 use Rattle.cycles.specs.declared.Asked.{Asked}
 use Rattle.cycles.specs.declared.Asked.the-variants.{Yes, No, Refused}
-use Rattle.cycles.proofs.Logs.{targetsL, visitL, orderOf}
+use Rattle.cycles.specs.Work.{targetsL, visitL}
+use Rattle.cycles.proofs.Logs.{orderOf}
 use Rattle.cycles.proofs.PassTrees.{table, orsAfterT, orsT, orFrom, productT, fill, atFlopT, run, listedT, resultT}
 use Rattle.cycles.proofs.Models.{runOf, functionsAfter, cycleAfter, needAfter}
 use Rattle.cycles.proofs.Fits.{fitting}

@@ -3,6 +3,9 @@ pub mod Each
 pub mod Logs
 pub mod Visits
 pub mod Searches
+pub mod Visiting
+pub mod Starting
+pub mod Incoming
 pub mod Passes
 pub mod Stops
 pub mod PassTrees

@@ -1,41 +1,16 @@
 -- The search of a component that also lists the flip-flops in the order in which their visits end: it makes the same visits. Assumes nothing.
 use mathlib.Core.Path.{_≡_, refl, ap, _∙_}
 use mathlib.Core.Bool.{Bool, true, false}
-use mathlib.Core.List.{List, [], _∷_, _++_}
+use mathlib.Core.List.{List}
 use Prim.Native.Nat.{ℕ, zero, suc}
 use Rattle.masks.specs.Sets.{bit, pick, put, lowest}
 use Rattle.graphs.specs.Components.{inside}
 use Rattle.cycles.specs.Search.{Visits, finish, mark, along, targets, visit}
-
--- the visits, and the flip-flops whose visit is over in the order in which it ended
-pub record Log : Type 0 where
-  pub visits : Visits
-  pub order : List ℕ
-
-abbrev pub begun : Log
-begun = record { visits = record { over = 0; back = 0 }; order = [] }
-
-abbrev pub finishL : ℕ → Log → Log
-finishL v s = record { visits = finish v (s .visits); order = s .order ++ (v ∷ []) }
-
-abbrev pub markL : ℕ → Log → Log
-markL u s = record { visits = mark u (s .visits); order = s .order }
+use Rattle.cycles.specs.Work.{Log, begun, markL, alongL, targetsL, visitL}
 
 module _ (E : ℕ → ℕ → Bool) (n : ℕ) where
-  abbrev pub alongL : (ℕ → Log → Log) → ℕ → ℕ → ℕ → Log → Log
-  alongL go going v w s = pick (E v w) (pick (bit going w) (markL v s) (pick (bit (s .visits .over) w) s (go w s))) s
-
-  unfoldable pub targetsL : (ℕ → Log → Log) → ℕ → ℕ → ℕ → Log → Log
-  targetsL go going v zero s = s
-  targetsL go going v (suc m) s = alongL go going v m (targetsL go going v m s)
-
-  unfoldable pub visitL : ℕ → ℕ → ℕ → Log → Log
-  visitL zero going v s = s
-  visitL (suc d) going v s = finishL v (targetsL (visitL d (put going v)) (put going v) v n s)
-
-  -- it makes the same visits
   along-same : (go : ℕ → Log → Log) (go′ : ℕ → Visits → Visits) → ((w : ℕ) (s : Log) → go w s .visits ≡ go′ w (s .visits)) → (going v w : ℕ) (s : Log)
-      → alongL go going v w s .visits ≡ along E n go′ going v w (s .visits)
+      → alongL E n go going v w s .visits ≡ along E n go′ going v w (s .visits)
   along-same go go′ same going v w s = cases (E v w) (bit going w) (bit (s .visits .over) w)
     where
       cases : (x y z : Bool)
@@ -47,17 +22,17 @@ module _ (E : ℕ → ℕ → Bool) (n : ℕ) where
       cases false y z = refl
 
   targets-same : (go : ℕ → Log → Log) (go′ : ℕ → Visits → Visits) → ((w : ℕ) (s : Log) → go w s .visits ≡ go′ w (s .visits)) → (going v m : ℕ) (s : Log)
-      → targetsL go going v m s .visits ≡ targets E n go′ going v m (s .visits)
+      → targetsL E n go going v m s .visits ≡ targets E n go′ going v m (s .visits)
   unfolding targetsL targets
   targets-same go go′ same going v zero s = refl
   targets-same go go′ same going v (suc m) s =
-      along-same go go′ same going v m (targetsL go going v m s) ∙ ap (along E n go′ going v m) (targets-same go go′ same going v m s)
+      along-same go go′ same going v m (targetsL E n go going v m s) ∙ ap (along E n go′ going v m) (targets-same go go′ same going v m s)
 
-  pub visit-same : (d going v : ℕ) (s : Log) → visitL d going v s .visits ≡ visit E n d going v (s .visits)
+  pub visit-same : (d going v : ℕ) (s : Log) → visitL E n d going v s .visits ≡ visit E n d going v (s .visits)
   unfolding visitL visit
   visit-same zero going v s = refl
   visit-same (suc d) going v s =
-      ap (finish v) (targets-same (visitL d (put going v)) (visit E n d (put going v)) (visit-same d (put going v)) (put going v) v n s)
+      ap (finish v) (targets-same (visitL E n d (put going v)) (visit E n d (put going v)) (visit-same d (put going v)) (put going v) v n s)
 
 -- the flip-flops of the component C in the order in which their visits end
 unfoldable pub orderOf : (ℕ → ℕ → Bool) → ℕ → ℕ → List ℕ

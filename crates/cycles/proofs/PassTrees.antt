@@ -20,7 +20,7 @@ use Rattle.trees.specs.Tree.{Tree, off, on, br, eval, joinT}
 use Rattle.trees.proofs.Joins.{joinT-eval}
 use Rattle.cycles.specs.Passes.{any, each, joined, either, orsAfter, ors, F, result, handed, atFlop, passes, listed}
 use Rattle.cycles.proofs.Each.{any-iff, each-iff}
-use Rattle.cycles.proofs.Searches.{Later}
+use Rattle.cycles.specs.Work.{Later}
 use Rattle.cycles.proofs.Passes.{Pass, from-back, from-other, pass-steps, pass-is}
 
 -- ---- the trees, computed

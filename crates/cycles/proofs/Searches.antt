@@ -26,15 +26,11 @@ use Rattle.graphs.proofs.Parts.{inside-edge}
 use Rattle.cycles.specs.Search.{searched, backOf}
 use Rattle.cycles.specs.Passes.{each}
 use Rattle.cycles.proofs.Each.{each-from, each-differ, each-ones, ones-some, differ-ones}
-use Rattle.cycles.proofs.Logs.{Log, begun, visitL, visit-same, orderOf}
+use Rattle.cycles.specs.Work.{Log, begun, visitL, Later}
+use Rattle.cycles.proofs.Logs.{visit-same, orderOf}
 use Rattle.cycles.proofs.Visits.{Did, did, reached, no-round, root-out}
 
 -- ---- the list, from the first that ended on
-
--- each edge from outside B into one of the list comes from one that stands after it: who goes through the list backwards comes to u before v
-abbrev pub Later : (ℕ → ℕ → Bool) → ℕ → List ℕ → Type 0
-Later E B [] = Unit {0}
-Later E B (v ∷ vs) = ((u : ℕ) → T (E u v) → T (left B u) → Of u vs) × Later E B vs
 
 later-from : (E : ℕ → ℕ → Bool) (B : ℕ) (xs : List ℕ)
     → ((i : ℕ) → i < length xs → (u : ℕ) → T (E u (getD xs i 0)) → T (left B u) → (j : ℕ) × (i < j) × (j < length xs) × (getD xs j 0 ≡ u))

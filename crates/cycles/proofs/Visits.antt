@@ -19,7 +19,7 @@ use Rattle.graphs.specs.Light.{left}
 use Rattle.graphs.proofs.Lists.{Of-left, Of-right, Of-cases, of-at, differ-at, differ-snoc}
 use Rattle.masks.proofs.Bits.{not-zero}
 use Rattle.masks.proofs.Members.{in-put, in-more, in-less}
-use Rattle.cycles.proofs.Logs.{Log, begun, finishL, markL, alongL, targetsL, visitL}
+use Rattle.cycles.specs.Work.{Log, begun, finishL, markL, alongL, targetsL, visitL}
 
 -- in a graph E whose edges are between flip-flops that pass a test, all below n
 module _ (E : ℕ → ℕ → Bool) (n : ℕ) (P : ℕ → Bool) (ends : (u w : ℕ) → T (E u w) → T (P u) × T (P w)) (low : (v : ℕ) → T (P v) → v < n) where

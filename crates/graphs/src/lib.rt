@@ -1,11 +1,19 @@
-// The checks that every operation makes first, and what a refusal is.
+// The checks that every operation makes first, and what a refusal is; who reaches whom, and the components.
+mod component;
+mod reaching;
+
 ghost use mathlib.Core.Path.{_≡_};
 ghost use Prim.Native.Nat.{_≤_};
 ghost use lib.ListN.{length};
 ghost use Rattle.graphs.specs.Refusals.{first, wide, checks, checkRefusal};
 ghost use Rattle.masks.specs.Sets.{lowest};
+pub use component::component_around;
+pub use component::holders;
+pub use component::inner_row;
+pub use component::next_component;
 use masks::Mask;
 use masks::Vertex;
+pub use reaching::reach_rows;
 
 // A refusal: its number in the table, and its place.
 pub struct Refusal {

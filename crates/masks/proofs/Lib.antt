@@ -3,6 +3,7 @@ pub mod Tests
 pub mod Bits
 pub mod Members
 pub mod Lowest
+pub mod Nexts
 pub mod Those
 pub mod Weights
 pub mod Order

@@ -1,4 +1,7 @@
 // Flip-flops by number, and sets of them as masks.
+mod store;
+mod walk;
+
 ghost use mathlib.Core.Path.{_≡_};
 ghost use mathlib.Core.Bool.{not};
 ghost use Prim.Native.Nat.{_-_, _≤_, _<_, _^_};
