@@ -1,15 +1,15 @@
 -- A join of two nodes: what its two calls and `make` ask, that fewer variables remain for the calls, and what they give together. Assumes nothing.
-use mathlib.Core.Path.{_≡_, refl, sym, ap, subst, _∙_}
+use mathlib.Core.Path.{_≡_, refl, sym, subst}
 use mathlib.Core.Bool.{Bool}
 use mathlib.Core.List.{List}
-use Prim.Native.Nat.{ℕ, suc, min, _-_, _^_, _≤_, _<_}
+use Prim.Native.Nat.{ℕ, suc, _-_, _^_, _≤_, _<_}
 use native.Mathlib.Omega.{arith}
 use lib.ListN.{replicate}
-use Rattle.trees.specs.Tree.{Tree, Ordered, mk, joinT}
+use Rattle.trees.specs.Tree.{Tree, mk, joinT}
 use Rattle.trees.proofs.Canonical.{ordered-down, Good}
 use Rattle.trees.proofs.Joins.{joinT-good}
-use Rattle.nodes.specs.Codes.{variables, word, level, Stands, Held, Table, Grows}
-use Rattle.nodes.specs.Promise.{Built, Short, Outcome, Makeable, MakePromise, noted, Entry, Memo, Joinable, Joined}
+use Rattle.nodes.specs.Codes.{variables, level, Stands, Held, Table, Grows}
+use Rattle.nodes.specs.Promise.{Built, Outcome, Makeable, MakePromise, noted, Entry, Memo, Joinable, Joined}
 use Rattle.nodes.specs.Work.{remaining, Remembered, Split, Splits}
 use Rattle.nodes.specs.declared.Node.{Node}
 use Rattle.nodes.specs.declared.Made.{Made}
@@ -97,7 +97,10 @@ module _ {ws ms : List ℕ} {a b : ℕ} {p : Parts} (x : Cut ws ms a b p) where
         pub full-high : r₂ ≡ Full → Joined or ws ws₂ ms₂ a b Full
         full-high e =
             record {
-              outcome = λ s t sa sb. let k = x .splits s t sa sb in short-high (p .v .0) _ _ _ (k .joins or) (built₁ k) (outcome-as ws₁ ws₂ _ e (high-outcome k));
+              outcome =
+                  λ s t sa sb.
+                  let k = x .splits s t sa sb in
+                  short-high (p .v .0) _ _ _ (k .joins or) (built₁ k) (outcome-as ws₁ ws₂ _ e (high-outcome k));
               memo = j₂ .memo;
             }
 
@@ -120,7 +123,8 @@ module _ {ws ms : List ℕ} {a b : ℕ} {p : Parts} (x : Cut ws ms a b p) where
               }
 
           module _ (ws₃ : List ℕ) (r₃ : Made) (m : MakePromise ws₂ ws₃ (p .v .0) (lo .0) (hi .0) r₃) where
-            made : {s t : Tree} → (k : Split ws a b p s t) → Outcome ws₂ ws₃ (mk (p .v .0) (joinT or (k .a0 .tree) (k .b0 .tree)) (joinT or (k .a1 .tree) (k .b1 .tree))) r₃
+            made : {s t : Tree} → (k : Split ws a b p s t)
+                → Outcome ws₂ ws₃ (mk (p .v .0) (joinT or (k .a0 .tree) (k .b0 .tree)) (joinT or (k .a1 .tree) (k .b1 .tree))) r₃
             made k = m (joinT or (k .a0 .tree) (k .b0 .tree)) (joinT or (k .a1 .tree) (k .b1 .tree)) (lo-stands k) (built₂ k .stands)
 
             all-made : (s t : Tree) → Stands ws a s → Stands ws b t → Outcome ws ws₃ (joinT or s t) r₃

@@ -2,7 +2,7 @@
 use mathlib.Core.Path.{_≡_, refl, sym, ap, ap₂, subst, _∙_}
 use mathlib.Core.Logic.{_≢_, _⊎_, inl, inr, ⊎-elim}
 use mathlib.Core.List.{List, [], _∷_, _++_}
-use Prim.Native.Nat.{ℕ, zero, suc, min, _+_, _≤_, _<_}
+use Prim.Native.Nat.{ℕ, zero, suc, _+_, _≤_, _<_}
 use native.Mathlib.Omega.{arith}
 use native.Mathlib.Numerals.{add-one}
 use lib.ListN.{length, getD, set, take, drop, replicate, length-set, length-take, length-replicate, getD-replicate, drop-of-length-le}
@@ -43,7 +43,12 @@ pub record Counting (ws : List ℕ) (count s : ℕ) : Type 0 where
   pub fewer : count ≤ s
   pub rest : count + used (drop s ws) ≡ used ws
 
-used-drop : (ws : List ℕ) (s : ℕ) → s < length ws → ((getD ws s 0 ≡ 0) × (used (drop s ws) ≡ used (drop (suc s) ws))) ⊎ ((getD ws s 0 ≢ 0) × (used (drop s ws) ≡ suc (used (drop (suc s) ws))))
+-- the word at s is in use or not
+abbrev Next : List ℕ → ℕ → Type 0
+Next ws s =
+    ((getD ws s 0 ≡ 0) × (used (drop s ws) ≡ used (drop (suc s) ws))) ⊎ ((getD ws s 0 ≢ 0) × (used (drop s ws) ≡ suc (used (drop (suc s) ws))))
+
+used-drop : (ws : List ℕ) (s : ℕ) → s < length ws → Next ws s
 unfolding used
 used-drop [] s l = absurd (omega arith)
 used-drop (zero ∷ ws) zero l = inl (refl, refl)
@@ -57,14 +62,14 @@ module _ (ws : List ℕ) (count s : ℕ) (c : Counting ws count s) where
   pub counting-one : s < length ws → getD ws s 0 ≢ 0 → Counting ws (count + 1) (s + 1)
   counting-one l k = go (used-drop ws s l)
     where
-      go : ((getD ws s 0 ≡ 0) × (used (drop s ws) ≡ used (drop (suc s) ws))) ⊎ ((getD ws s 0 ≢ 0) × (used (drop s ws) ≡ suc (used (drop (suc s) ws)))) → Counting ws (count + 1) (s + 1)
+      go : Next ws s → Counting ws (count + 1) (s + 1)
       go (inl e) = absurd (k (e .0))
       go (inr e) = rw (add-one s) (record { within = omega arith; fewer = omega (arith, c .fewer); rest = omega (arith, c .rest, e .1) })
 
   pub counting-skip : s < length ws → getD ws s 0 ≡ 0 → Counting ws count (s + 1)
   counting-skip l k = go (used-drop ws s l)
     where
-      go : ((getD ws s 0 ≡ 0) × (used (drop s ws) ≡ used (drop (suc s) ws))) ⊎ ((getD ws s 0 ≢ 0) × (used (drop s ws) ≡ suc (used (drop (suc s) ws)))) → Counting ws count (s + 1)
+      go : Next ws s → Counting ws count (s + 1)
       go (inl e) = rw (add-one s) (record { within = omega arith; fewer = omega (arith, c .fewer); rest = omega (arith, c .rest, e .1) })
       go (inr e) = absurd (e .0 k)
 
@@ -76,10 +81,7 @@ module _ (ws : List ℕ) (count s : ℕ) (c : Counting ws count s) where
 
 -- ---- the node room
 
--- its first words are those that count
-pub capacity-le : (ws : List ℕ) → capacity ws ≤ length ws
-capacity-le ws = omega arith
-
+-- as many words as count
 pub front-length : (ws : List ℕ) (n : ℕ) → n ≡ capacity ws → n ≡ length (take n ws)
 front-length ws n e = simp length-take (omega arith)
 

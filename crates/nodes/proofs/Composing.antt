@@ -1,6 +1,6 @@
 -- Two operations for the sides of a tree and `make` for the tree itself, one after the other, are one operation for the tree: what is new is a part of it,
 -- and where the room was full, a part of it stands nowhere. Assumes nothing.
-use mathlib.Core.Path.{_≡_, refl, sym, ap, subst, _∙_}
+use mathlib.Core.Path.{_≡_, subst}
 use mathlib.Core.Logic.{⊎-elim}
 use mathlib.Core.List.{List}
 use Prim.Native.Nat.{ℕ}
@@ -13,7 +13,7 @@ use Rattle.nodes.specs.declared.Made.{Made}
 use Rattle.nodes.specs.declared.Made.the-variants.{At, Full}
 use Rattle.nodes.proofs.Slots.{same-or, grows-more}
 use Rattle.nodes.proofs.Standing.{stands-grows}
-use Rattle.nodes.proofs.Deciding.{part-low, part-high}
+use Rattle.trees.proofs.Branches.{part-low, part-high}
 
 pub outcome-grows : (ws ws′ : List ℕ) (t : Tree) (r : Made) → Outcome ws ws′ t r → Grows ws ws′
 outcome-grows ws ws′ t (At c) o = o .grows

@@ -1,7 +1,7 @@
 -- The slots in use, counted: they stand for different trees, so that there are no more of them than different parts of the trees that they are parts of;
 -- and as many, where all these parts stand in the room. Assumes nothing.
 use mathlib.Core.Path.{_≡_, refl, sym, ap, subst, _∙_}
-use mathlib.Core.Logic.{_≢_, _⊎_, inl, inr, ⊎-elim}
+use mathlib.Core.Logic.{inl, inr, ⊎-elim}
 use mathlib.Core.List.{List, [], _∷_, map}
 use Prim.Native.Nat.{ℕ, zero, suc, _+_, _-_, _≤_, _<_}
 use native.Mathlib.Omega.{arith}
@@ -9,10 +9,10 @@ use native.Mathlib.Decide.{ℕ-discrete}
 use lib.ListN.{length, getD, length-map}
 use Rattle.graphs.specs.Graph.{Of, Differ}
 use Rattle.graphs.proofs.Lists.{differ-le, differ-map, Of-map, Of-from, Of-cases}
-use Rattle.trees.specs.Tree.{Tree, off, on, br, subs, subsAll, once}
+use Rattle.trees.specs.Tree.{Tree, off, br, subs, subsAll, once}
 use Rattle.trees.proofs.Needs.{once-of, once-differ}
 use Rattle.nodes.specs.Rooms.{used}
-use Rattle.nodes.specs.Codes.{word, Taken, Stands, is-off, is-on, is-br, Filled, Table}
+use Rattle.nodes.specs.Codes.{Taken, Stands, is-off, is-on, is-br, Filled, Table}
 use Rattle.nodes.specs.Promise.{PartsOf}
 use Rattle.nodes.proofs.Standing.{stands-one, stands-code}
 

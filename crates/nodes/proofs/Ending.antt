@@ -1,15 +1,15 @@
 -- Joins that need no steps: with a constant, of a code with itself, and those that the memo room has. Assumes nothing.
-use mathlib.Core.Path.{_≡_, refl, sym, ap, subst, _∙_}
+use mathlib.Core.Path.{_≡_}
 use mathlib.Core.Logic.{_≢_}
 use mathlib.Core.Bool.{Bool, true, false}
 use mathlib.Core.List.{List}
-use Prim.Native.Nat.{ℕ, _≤_, _<_}
+use Prim.Native.Nat.{ℕ, _<_}
 use native.Mathlib.Omega.{arith}
 use Rattle.masks.specs.Sets.{pick}
-use Rattle.trees.specs.Tree.{Tree, off, on, joinT}
+use Rattle.trees.specs.Tree.{Tree, joinT}
 use Rattle.nodes.specs.Codes.{Stands, is-off, is-on, Table}
 use Rattle.nodes.proofs.Standing.{stands-one, stands-good}
-use Rattle.nodes.proofs.Joining.{unitT, zeroT, join-unit-l, join-unit-r, join-zero-l, join-zero-r, join-self}
+use Rattle.trees.proofs.Branches.{unitT, zeroT, join-left, join-right, join-self}
 
 -- ---- constants
 
@@ -27,20 +27,20 @@ zero-stands ws false a l k =
 
 module _ (or : Bool) (a b : ℕ) (ws : List ℕ) (s t : Tree) (T : Table ws) (sa : Stands ws a s) (sb : Stands ws b t) where
   pub end-unit-l : a ≡ pick or 0 1 → Stands ws b (joinT or s t)
-  end-unit-l e = rw (stands-one sa (unit-stands ws or a e), join-unit-l or t) sb
+  end-unit-l e = rw (stands-one sa (unit-stands ws or a e), join-left or t .0) sb
 
   pub end-unit-r : b ≡ pick or 0 1 → Stands ws a (joinT or s t)
-  end-unit-r e = rw (stands-one sb (unit-stands ws or b e), join-unit-r or s) sa
+  end-unit-r e = rw (stands-one sb (unit-stands ws or b e), join-right or s .0) sa
 
   pub end-zero-l : a < 2 → a ≢ pick or 0 1 → Stands ws a (joinT or s t)
   end-zero-l l k =
       let z : Stands ws a (zeroT or) = zero-stands ws or a l k in
-      rw (stands-one sa z, join-zero-l or t) z
+      rw (stands-one sa z, join-left or t .1) z
 
   pub end-zero-r : b < 2 → b ≢ pick or 0 1 → Stands ws b (joinT or s t)
   end-zero-r l k =
       let z : Stands ws b (zeroT or) = zero-stands ws or b l k in
-      rw (stands-one sb z, join-zero-r or s) z
+      rw (stands-one sb z, join-right or s .1) z
 
   pub end-same : a ≡ b → Stands ws a (joinT or s t)
   end-same e =

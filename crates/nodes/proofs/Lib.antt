@@ -3,9 +3,7 @@ pub mod Packings
 pub mod Slots
 pub mod Clearing
 pub mod Standing
-pub mod Deciding
 pub mod Making
-pub mod Joining
 pub mod Ending
 pub mod Splitting
 pub mod Walking
@@ -14,3 +12,4 @@ pub mod Composing
 pub mod Applying
 pub mod Counting
 pub mod Listing
+pub mod Calling

@@ -1,27 +1,25 @@
 -- A room that holds a list of trees: it begins empty, each operation adds the tree that it was asked for, and the number of words in use is the need of
 -- their functions; or the room is full, and their need exceeds its length. Assumes nothing.
-use mathlib.Core.Path.{_≡_, refl, sym, ap, subst, _∙_}
-use mathlib.Core.Logic.{_⊎_, inl, inr, ⊎-elim, _↔_}
+use mathlib.Core.Path.{_≡_, refl, sym, subst, _∙_}
+use mathlib.Core.Logic.{inl, inr, ⊎-elim, _↔_}
 use mathlib.Core.Bool.{Bool}
 use mathlib.Core.List.{List, [], _∷_, map}
-use Prim.Native.Nat.{ℕ, _+_, _≤_, _<_}
+use Prim.Native.Nat.{ℕ, _≤_, _<_}
 use native.Mathlib.Omega.{arith}
-use native.Mathlib.Decide.{ℕ-discrete}
 use lib.ListN.{length, getD, replicate, length-replicate}
 use Rattle.graphs.specs.Graph.{Of}
-use Rattle.graphs.proofs.Lists.{differ-le, Of-left, Of-right, Of-cases}
-use Rattle.trees.specs.Tree.{Tree, off, on, br, eval, joinT, subs, subsAll, once}
+use Rattle.graphs.proofs.Lists.{differ-le, Of-left, Of-right}
+use Rattle.trees.specs.Tree.{Tree, eval, subs, subsAll, once}
 use Rattle.trees.specs.Need.{Need}
-use Rattle.trees.proofs.Canonical.{Good, good-var}
-use Rattle.trees.proofs.Joins.{joinT-good}
+use Rattle.trees.proofs.Canonical.{Good}
 use Rattle.trees.proofs.Needs.{Within, need-within, once-of, once-differ, AllGood, subs-from, subs-to, need-trees}
 use Rattle.nodes.specs.Rooms.{used}
-use Rattle.nodes.specs.Codes.{Taken, Stands, is-off, is-on, Table, Grows}
-use Rattle.nodes.specs.Promise.{Fresh, Built, Short, Outcome, Memo, Joinable, Joined, PartsOf, Room, Over, Extended, After}
+use Rattle.nodes.specs.Codes.{Stands, Grows}
+use Rattle.nodes.specs.Promise.{Fresh, Built, Short, Outcome, PartsOf, Room, Over, After}
 use Rattle.nodes.specs.declared.Made.{Made}
 use Rattle.nodes.specs.declared.Made.the-variants.{At, Full}
-use Rattle.nodes.proofs.Slots.{same-or, grows-same}
-use Rattle.nodes.proofs.Standing.{stands-grows, stands-good, held}
+use Rattle.nodes.proofs.Slots.{same-or}
+use Rattle.nodes.proofs.Standing.{stands-grows, stands-good}
 use Rattle.nodes.proofs.Remembering.{zeros}
 use Rattle.nodes.proofs.Counting.{full-used, used-lt, used-is, part-slot}
 
@@ -52,7 +50,7 @@ room-same ws ts ts′ e r =
           (x .0, subs-to ts′ (y .0) (x .0) (e (y .0) .0 (y .1)) (y .2), x .2);
     }
 
--- a tree that stands in the room and whose parts are those of listed trees, as a constant or a listed one
+-- a tree that stands in the room may be listed too: a constant, or a part of a listed one
 pub room-also : (ws : List ℕ) (ts : List Tree) (t : Tree) (c : ℕ) → Stands ws c t → Room ws ts → Room ws (t ∷ ts)
 room-also ws ts t c st r =
     record {
@@ -103,15 +101,6 @@ room-short {ws} {ws′} {ts} {t} r b =
 pub room-after : (ws ws′ : List ℕ) (ts : List Tree) (t : Tree) (r : Made) → Room ws ts → Outcome ws ws′ t r → After ws ws′ ts t r
 room-after ws ws′ ts t (At c) m o = record { room = room-built m o; grows = o .grows; stands = o .stands }
 room-after ws ws′ ts t Full m o = room-short m o
-
--- a join of two codes of a room may be asked for, and does that
-pub room-joinable : {ws : List ℕ} {ts : List Tree} {a b : ℕ} {s t : Tree} (ms : List ℕ) → Room ws ts → Memo ws ms → Stands ws a s → Stands ws b t
-    → Joinable ws ms a b
-room-joinable ms m k sa sb = record { table = m .table; memo = k; left = held (m .table) sa; right = held (m .table) sb }
-
-pub room-joined : {or : Bool} {ws ws′ ms′ : List ℕ} {ts : List Tree} {a b : ℕ} {s t : Tree} {r : Made} → Room ws ts → Stands ws a s → Stands ws b t
-    → Joined or ws ws′ ms′ a b r → After ws ws′ ts (joinT or s t) r
-room-joined {or} {ws} {ws′} {ts = ts} {s = s} {t = t} {r = r} m sa sb j = room-after ws ws′ ts (joinT or s t) r m (j .outcome s t sa sb)
 
 -- ---- the need
 

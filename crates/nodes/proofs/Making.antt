@@ -3,20 +3,19 @@
 use mathlib.Core.Path.{_≡_, refl, sym, ap, subst, _∙_}
 use mathlib.Core.Logic.{_≢_, _⊎_, ⊎-elim, inl}
 use mathlib.Core.List.{List}
-use Prim.Native.Nat.{ℕ, suc, _+_, _-_, _^_, _≤_, _<_}
+use Prim.Native.Nat.{ℕ, _+_, _-_, _^_, _<_}
 use native.Mathlib.Omega.{arith}
 use lib.ListN.{length, getD, set, length-set}
 use lib.Seq.{getD-set-same}
-use Rattle.graphs.specs.Graph.{Of}
-use Rattle.trees.specs.Tree.{Tree, br, mk, subs}
+use Rattle.trees.specs.Tree.{Tree, br, mk}
 use Rattle.nodes.specs.Packing.{packed}
-use Rattle.nodes.specs.Codes.{Taken, Stands, Held, Fair, home, Reach, Table, Grows}
+use Rattle.nodes.specs.Codes.{Taken, Stands, Fair, home, Reach, Table, Grows}
 use Rattle.nodes.specs.Promise.{Fresh, Built, Short, Makeable}
 use Rattle.nodes.specs.Work.{Passed}
 use Rattle.nodes.proofs.Packings.{packed-variable, packed-low, packed-high}
 use Rattle.nodes.proofs.Slots.{taken-lt, taken-set, set-grows, grows-reach, grows-same}
 use Rattle.nodes.proofs.Standing.{stands-grows, held-grows, stands-one, stands-code, stands-small, node-stands, node-word, node-taken}
-use Rattle.nodes.proofs.Deciding.{mk-same, mk-other}
+use Rattle.trees.proofs.Branches.{mk-same, mk-other}
 
 -- ---- one word more
 

@@ -1,6 +1,6 @@
 -- Node words and memo words in arithmetic: what is packed comes out again, shifts and masks compute the packing, and a word's home is a place of the room.
 -- Assumes nothing.
-use mathlib.Core.Path.{_≡_, refl, sym, ap, _∙_}
+use mathlib.Core.Path.{_≡_, refl, _∙_}
 use mathlib.Core.Logic.{_≢_}
 use mathlib.Core.Bool.{Bool, true, false}
 use Prim.Native.Nat.{ℕ, min, max, _+_, _*_, _/_, _%_, _^_, _≤_, _<_}
@@ -8,7 +8,7 @@ use native.Mathlib.Omega.{arith}
 use native.Mathlib.Nat.{le-of-lt, mul-le-mul-left, mul-lt-mul-of-pos-right, div-lt-iff-lt-mul}
 use lib.Bits.{bitAnd, bitOr, and-mask, or-shifted, or-shifted-r}
 use lib.Dec.{ltb}
-use borrow.Author.Tests.{lt-ltb, le-ltb, ltb-true, ltb-false}
+use borrow.Author.Tests.{lt-ltb, le-ltb, ltb-false}
 use Rattle.masks.specs.Sets.{pick}
 use Rattle.nodes.specs.Packing.{packed, variableOf, lowOf, highOf}
 use Rattle.nodes.specs.Codes.{mixed, home}

@@ -10,12 +10,12 @@ use lib.ListN.{length, getD, set, replicate, length-replicate, getD-replicate, L
 use lib.Seq.{getD-set-same, getD-set-other, set-out}
 use Rattle.trees.specs.Tree.{Tree, joinT}
 use Rattle.trees.proofs.Joins.{joinT-comm}
-use Rattle.nodes.specs.Codes.{Taken, Stands, Table, Grows}
+use Rattle.nodes.specs.Codes.{Stands, Table, Grows}
 use Rattle.nodes.specs.Promise.{pair, key, noted, Entry, Memo}
 use Rattle.nodes.specs.Work.{Recalled, Known}
 use Rattle.nodes.specs.declared.memos.Seen.{Seen}
 use Rattle.nodes.specs.declared.memos.Seen.the-variants.{Answer, Unknown}
-use Rattle.nodes.proofs.Slots.{same-or, lt-or-le, taken-lt, taken-set}
+use Rattle.nodes.proofs.Slots.{same-or, lt-or-le}
 use Rattle.nodes.proofs.Standing.{stands-grows, stands-one, stands-good, stands-small}
 
 -- ---- one word
@@ -40,7 +40,9 @@ record Small (a b r : ℕ) : Type 0 where
 module _ (a b r a′ b′ r′ : ℕ) (k : Small a b r) (k′ : Small a′ b′ r′) where
   -- two numbers with the same least and greatest
   either-way : min a b ≡ min a′ b′ → max a b ≡ max a′ b′ → ((a ≡ a′) × (b ≡ b′)) ⊎ ((a ≡ b′) × (b ≡ a′))
-  either-way e f = ⊎-elim (λ l. ⊎-elim (λ l′. inl (omega arith)) (λ l′. inr (omega arith)) (lt-or-le a′ b′)) (λ l. ⊎-elim (λ l′. inr (omega arith)) (λ l′. inl (omega arith)) (lt-or-le a′ b′)) (lt-or-le a b)
+  either-way e f =
+      ⊎-elim (λ l. ⊎-elim (λ l′. inl (omega arith)) (λ l′. inr (omega arith)) (lt-or-le a′ b′))
+      (λ l. ⊎-elim (λ l′. inr (omega arith)) (λ l′. inl (omega arith)) (lt-or-le a′ b′)) (lt-or-le a b)
 
   noted-same : (or or′ : Bool) → noted or a b r ≡ noted or′ a′ b′ r′ → Same or a b r or′ a′ b′ r′
   unfolding noted key pair

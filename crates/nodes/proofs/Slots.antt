@@ -1,12 +1,12 @@
 -- Slots of the node room: what a search passes, and what a store into a slot that was not in use changes. Assumes nothing.
 use mathlib.Core.Path.{_≡_, refl, sym, ap, subst, _∙_}
 use mathlib.Core.Logic.{_≢_, _⊎_, ⊎-elim, inl, inr}
-use mathlib.Core.List.{List, [], _∷_}
-use Prim.Native.Nat.{ℕ, zero, suc, _+_, _-_, _≤_, _<_}
+use mathlib.Core.List.{List}
+use Prim.Native.Nat.{ℕ, _+_, _≤_, _<_}
 use native.Mathlib.Omega.{arith}
 use native.Mathlib.Decide.{decLt, ℕ-discrete}
 use lib.ListN.{length, getD, set, length-set, List·getD-eq-default}
-use lib.Seq.{getD-set-same, getD-set-other}
+use lib.Seq.{getD-set-other}
 use Rattle.nodes.specs.Codes.{Taken, Filled, Reach, ahead, around, Reaches, home, Grows}
 use Rattle.nodes.specs.Work.{Passed}
 
@@ -29,10 +29,6 @@ lt-or-le a b = go (decLt a b)
 -- a slot in use is in the room
 pub taken-lt : (ws : List ℕ) (s : ℕ) → Taken ws s → s < length ws
 taken-lt ws s t = ⊎-elim (λ l. l) (λ g. absurd (t (List·getD-eq-default ws 0 g))) (lt-or-le s (length ws))
-
--- the slot of the code of a slot
-pub code-slot : (s : ℕ) → s + 2 - 2 ≡ s
-code-slot s = omega arith
 
 -- ---- what a search has passed
 

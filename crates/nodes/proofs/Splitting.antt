@@ -1,16 +1,15 @@
 -- Two nodes taken apart at the lower variable: at the variable of the first, of the second, or of both. Assumes nothing.
-use mathlib.Core.Path.{_≡_, refl, sym, ap, subst, _∙_}
-use mathlib.Core.Bool.{Bool}
+use mathlib.Core.Path.{_≡_, sym, subst, _∙_}
 use mathlib.Core.List.{List}
 use Prim.Native.Nat.{ℕ, suc, min, _≤_, _<_}
 use native.Mathlib.Omega.{arith}
-use Rattle.trees.specs.Tree.{Tree, br, Ordered, mk, joinT}
+use Rattle.trees.specs.Tree.{Tree, br, Ordered}
 use Rattle.nodes.specs.Packing.{variableOf, lowOf, highOf}
 use Rattle.nodes.specs.Codes.{word, level, Stands, is-off, is-on, is-br, Held, Table}
 use Rattle.nodes.specs.Work.{Split}
 use Rattle.nodes.specs.declared.joins.Parts.{Parts}
 use Rattle.nodes.proofs.Standing.{Sides, node-sides, level-node}
-use Rattle.nodes.proofs.Joining.{join-less, join-both, join-more}
+use Rattle.trees.proofs.Branches.{join-less, join-both, join-more}
 
 -- a node, its branches and what they stand for
 pub record Opened (ws : List ℕ) (c : ℕ) (t : Tree) : Type 0 where

@@ -1,21 +1,19 @@
 -- What codes stand for: one tree each, which is good where the room is in order; each tree has one code; and what they stand for stays as the room grows.
 -- Shown by induction on what the code stands for. Assumes nothing.
 use mathlib.Core.Path.{_≡_, refl, sym, ap, subst, _∙_}
-use mathlib.Core.Logic.{_≢_, _↔_, ⊎-elim}
-use mathlib.Core.Bool.{Bool, true, false}
+use mathlib.Core.Logic.{_≢_, _↔_}
 use mathlib.Core.List.{List}
 use Prim.Native.Nat.{ℕ, suc, _+_, _-_, _^_, _≤_, _<_}
 use native.Mathlib.Omega.{arith}
 use lib.ListN.{length, getD}
 use borrow.Author.Tests.{lt-ltb, le-ltb}
-use Rattle.masks.specs.Sets.{pick}
-use Rattle.trees.specs.Tree.{Tree, off, on, br, Ordered, Reduced}
+use Rattle.trees.specs.Tree.{Tree, br, Ordered, Reduced}
 use Rattle.trees.specs.Best.{Under}
-use Rattle.trees.proofs.Canonical.{Good, Same, good-off, good-on, good-down, canon}
+use Rattle.trees.proofs.Canonical.{Good, Same, canon}
 use Rattle.nodes.specs.Packing.{packed, variableOf, lowOf, highOf}
 use Rattle.nodes.specs.Codes.{variables, word, level, Taken, Stands, is-off, is-on, is-br, Held, Fair, Table, Grows}
 use Rattle.nodes.proofs.Packings.{packed-variable, packed-low, packed-high, packed-again, packed-nonzero}
-use Rattle.nodes.proofs.Slots.{taken-lt, grows-taken, lt-or-le}
+use Rattle.nodes.proofs.Slots.{taken-lt, grows-taken}
 
 -- ---- as the room grows
 

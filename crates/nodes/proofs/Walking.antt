@@ -1,12 +1,12 @@
 -- A walk down from a code, by a kept set: the code that it has come to has the same value there, and its variables are fewer at each step. Assumes nothing.
-use mathlib.Core.Path.{_≡_, refl, sym, ap, subst, _∙_}
+use mathlib.Core.Path.{_≡_, sym, ap, _∙_}
 use mathlib.Core.Bool.{Bool, true, false}
 use mathlib.Core.List.{List}
 use Prim.Native.Nat.{ℕ, suc, _-_, _≤_, _<_}
 use native.Mathlib.Omega.{arith}
 use Rattle.masks.specs.Sets.{bit, pick}
-use Rattle.trees.specs.Tree.{Tree, off, on, br, eval, Ordered}
-use Rattle.nodes.specs.Codes.{variables, word, level, Stands, is-br, Held, Table}
+use Rattle.trees.specs.Tree.{Tree, br, eval, Ordered}
+use Rattle.nodes.specs.Codes.{variables, level, Stands, is-br, Held, Table}
 use Rattle.nodes.specs.Promise.{Shaped, ValuePromise}
 use Rattle.nodes.specs.declared.Node.{Node}
 use Rattle.masks.specs.declared.Vertex.{Vertex}

@@ -2,7 +2,7 @@
 use mathlib.Core.Path.{_≡_}
 use mathlib.Core.Bool.{Bool}
 use mathlib.Core.List.{List, _∷_}
-use Prim.Native.Nat.{ℕ, suc, min, max, _+_, _*_, _^_, _≤_, _<_}
+use Prim.Native.Nat.{ℕ, suc, min, max, _+_, _*_, _^_, _<_}
 use lib.ListN.{length, getD}
 use Rattle.masks.specs.Sets.{pick}
 use Rattle.graphs.specs.Graph.{Of}

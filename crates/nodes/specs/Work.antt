@@ -7,7 +7,7 @@ use Prim.Native.Nat.{ℕ, suc, min, _-_, _^_, _≤_, _<_}
 use lib.ListN.{length, getD, set}
 use Rattle.trees.specs.Tree.{Tree, mk, joinT}
 use Rattle.nodes.specs.Codes.{variables, level, Stands, Held, Filled, Reach, home, Table}
-use Rattle.nodes.specs.Promise.{key, noted, Memo}
+use Rattle.nodes.specs.Promise.{noted, Memo}
 use Rattle.nodes.specs.declared.probes.Spot.{Spot}
 use Rattle.nodes.specs.declared.probes.Spot.the-variants.{Here, Empty, Gone}
 use Rattle.nodes.specs.declared.memos.Seen.{Seen}

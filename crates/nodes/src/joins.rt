@@ -1,6 +1,6 @@
 // OR and AND of two functions: down both by the lower variable, one decision at a time.
 ghost use mathlib.Core.Path.{_≡_};
-ghost use Prim.Native.Nat.{_-_, _^_, _≤_, _<_};
+ghost use Prim.Native.Nat.{_^_, _≤_, _<_};
 ghost use lib.ListN.{length};
 ghost use Rattle.masks.specs.Sets.{pick};
 ghost use Rattle.nodes.specs.Codes.{Held, Table};

@@ -1,5 +1,6 @@
-// The node room: functions of the kept set as nodes in a lent room of words, with a second room as the memo of joins. Everything here works on the
-// first 65,536 words of the node room at most; a memo room as long as the node room is the good choice for large needs.
+// The node room: functions of the kept set as nodes in a lent room of words, with a second room as the memo of joins. The operations work in the part of
+// the node room that counts, `&mut nodes[..n]` with n its capacity, after it was emptied and the memo cleared. A memo room as long as the node room is the
+// good choice for large needs; a short one costs time only, since a local one takes its place.
 mod joins;
 mod memos;
 mod probes;

@@ -3,3 +3,4 @@ pub mod Canonical
 pub mod Joins
 pub mod Needs
 pub mod Bests
+pub mod Branches

@@ -1,6 +1,5 @@
 -- `clear` meets its contract. The loop's invariant: the words passed are 0. Assumes nothing.
-use Prim.Native.Nat.{_-_, _≤_}
-use mathlib.Core.Path.{_≡_}
+use Prim.Native.Nat.{_-_}
 use native.Mathlib.Omega.{arith}
 use borrow.Author.Needs.{needs, scaled-fits}
 use lib.ListN.{length, length-set}

@@ -3,10 +3,6 @@ use borrow.Author.Needs.{needs}
 use Rattle.nodes.proofs.Clearing.{front-length, emptied-is}
 use Rattle.nodes.proofs.empty.Statement.{statement}
 use Rattle.nodes.proofs.empty.Tie as tie
-use Rattle.nodes.proofs.empty.Reads as reads
-use Rattle.nodes.proofs.empty.Lts as lts
-use Rattle.nodes.proofs.capacity.Reads as capacity-reads
-use Rattle.nodes.proofs.clear.Reads as clear-reads
 
 capacity-requires : tie.Need-capacity-requires
 capacity-requires c κs = search needs

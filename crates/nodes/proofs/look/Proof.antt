@@ -1,25 +1,16 @@
 -- `look` meets its contract. Assumes nothing.
 use borrow.Author.Needs.{needs}
-use mathlib.Core.Path.{_≡_, refl, sym, ap, subst, _∙_}
+use mathlib.Core.Path.{_≡_, sym, ap, _∙_}
 use mathlib.Core.List.{List}
-use Prim.Native.Nat.{ℕ, _-_, _≤_, _<_}
+use Prim.Native.Nat.{ℕ, _-_, _≤_}
 use native.Mathlib.Omega.{arith}
-use lib.ListN.{length}
 use Rattle.trees.specs.Tree.{Tree, br}
 use Rattle.nodes.specs.Packing.{variableOf, lowOf, highOf}
 use Rattle.nodes.specs.Codes.{word, Stands, is-off, is-on, is-br}
-use Rattle.nodes.specs.Promise.{Shaped}
-use Rattle.nodes.specs.declared.Shape.the-variants.{Branch}
 use Rattle.nodes.proofs.Slots.{taken-lt}
 use Rattle.nodes.proofs.Standing.{stands-one, stands-taken}
 use Rattle.nodes.proofs.look.Statement.{statement}
 use Rattle.nodes.proofs.look.Tie as tie
-use Rattle.nodes.proofs.look.Reads as reads
-use Rattle.nodes.proofs.look.Lts as lts
-use Rattle.nodes.proofs.words.high_of.Reads as high-of-reads
-use Rattle.nodes.proofs.words.low_of.Reads as low-of-reads
-use Rattle.nodes.proofs.words.variable_of.Reads as variable-of-reads
-use Rattle.nodes.proofs.words.word_at.Reads as word-at-reads
 
 -- a node is the branch of its word
 shaped : (ws : List ℕ) (c v low high : ℕ) (t : Tree) → 2 ≤ c → v ≡ variableOf (word ws c) → low ≡ lowOf (word ws c) → high ≡ highOf (word ws c)

@@ -1,6 +1,6 @@
 -- `make` meets its contract: what is there already is found, else there is place for it, else it stands nowhere. Assumes nothing.
 use borrow.Author.Needs.{needs, scaled-fits}
-use mathlib.Core.Path.{_≡_, refl, sym, _∙_}
+use mathlib.Core.Path.{_≡_, sym, _∙_}
 use mathlib.Core.List.{List}
 use Prim.Native.Nat.{ℕ, _+_, _^_, _≤_, _<_}
 use native.Mathlib.Omega.{arith}
@@ -11,20 +11,17 @@ use Rattle.nodes.proofs.Packings.{packed-nonzero, packed-fits}
 use Rattle.nodes.proofs.Making.{lo-small, hi-small, make-same, make-here, make-empty, make-full}
 use Rattle.nodes.proofs.make.Statement.{statement}
 use Rattle.nodes.proofs.make.Tie as tie
-use Rattle.nodes.proofs.make.Reads as reads
-use Rattle.nodes.proofs.make.Lts as lts
 
 returns : tie.Need-returns
 returns c =
     let s = c .before .before .before .before in
-    make-same (s .args .nodes .now) (s .args .v .0) (s .args .low .0) (s .args .high .0) (s .pre) (c .if1 .taken)
+    make-same _ _ _ _ (s .pre) (c .if1 .taken)
 
 pack-requires : tie.Need-pack-requires
 pack-requires c κs =
     let s = c .before .before .before .before in
-    let n = s .args .nodes .now in
     let k = s .pre .variable in
-    (omega arith, lo-small n (s .args .v .0) (s .args .low .0) (s .args .high .0) (s .pre), hi-small n (s .args .v .0) (s .args .low .0) (s .args .high .0) (s .pre))
+    (omega arith, lo-small _ _ _ _ (s .pre), hi-small _ _ _ _ (s .pre))
 
 -- once the word is packed: its branches differ, so that it is not 0, and it fits
 module _ (c : tie.After-pack) where
@@ -40,8 +37,8 @@ module _ (c : tie.After-pack) where
   word-fits : c .pack .result < 2 ^ 42
   word-fits =
       let v = start .pre .variable in
-      let l = lo-small room (start .args .v .0) (start .args .low .0) (start .args .high .0) (start .pre) in
-      let h = hi-small room (start .args .v .0) (start .args .low .0) (start .args .high .0) (start .pre) in
+      let l = lo-small _ _ _ _ (start .pre) in
+      let h = hi-small _ _ _ _ (start .pre) in
       omega (arith, packed-fits (start .args .v .0) (start .args .low .0) (start .args .high .0) l h (omega arith), c .pack .ensures)
 
 probe-requires : tie.Need-probe-requires
@@ -51,10 +48,16 @@ enum-known-s : tie.Need-enum-known-s
 enum-known-s c = search needs
 
 -- the slot that the probe found
-here : (c : tie.After-known-told) → Probed (room (c .before .before .before .before .before)) (c .before .before .before .before .before .pack .result) (Here (c .before .s .given .0 .0))
+abbrev packing : tie.After-known-told → tie.After-pack
+packing c = c .before .before .before .before .before
+
+here : (c : tie.After-known-told) → Probed (room (packing c)) (packing c .pack .result) (Here (c .before .s .given .0 .0))
 here c = rw (c .before .s .given .1) at (c .before .before .before .probe .ensures)
 
-place : (c : tie.After-known-told2) → Probed (room (c .before .before .before .before .before)) (c .before .before .before .before .before .pack .result) (Empty (c .before .s2 .given .0 .0))
+abbrev packing-2 : tie.After-known-told2 → tie.After-pack
+packing-2 c = c .before .before .before .before .before
+
+place : (c : tie.After-known-told2) → Probed (room (packing-2 c)) (packing-2 c .pack .result) (Empty (c .before .s2 .given .0 .0))
 place c = rw (c .before .s2 .given .1) at (c .before .before .before .probe .ensures)
 
 -- a slot is far from the last number
@@ -62,25 +65,19 @@ code-fits : (ws : List ℕ) (s : ℕ) → length ws ≤ 65536 → s < length ws 
 code-fits ws s n l = omega arith
 
 add-t14 : tie.Need-add-t14
-add-t14 c =
-    let s = start (c .before .before .before .before .before) in
-    record { fits = code-fits (s .args .nodes .now) _ (s .pre .table .small) (here c .0) }
+add-t14 c = record { fits = code-fits (room (packing c)) _ (start (packing c) .pre .table .small) (here c .0) }
 
 enum-known-s-2 : tie.Need-enum-known-s-2
 enum-known-s-2 c = search needs
 
 mul-nodes : tie.Need-mul-nodes
-mul-nodes c =
-    let s = start (c .before .before .before .before .before) in
-    scaled-fits _ (length (s .args .nodes .now)) 8 (place c .0) (s .good .0 .1)
+mul-nodes c = scaled-fits _ (length (room (packing-2 c))) 8 (place c .0) (start (packing-2 c) .good .0 .1)
 
 slice-write-nodes : tie.Need-slice-write-nodes
 slice-write-nodes c = place c .0
 
 add-t19 : tie.Need-add-t19
-add-t19 c =
-    let s = start (c .before .before .before .before .before) in
-    record { fits = code-fits (s .args .nodes .now) _ (s .pre .table .small) (place c .0) }
+add-t19 c = record { fits = code-fits (room (packing-2 c)) _ (start (packing-2 c) .pre .table .small) (place c .0) }
 
 enum-told : tie.Need-enum-told
 enum-told c = search needs
@@ -90,19 +87,16 @@ same-length c = search needs
 
 returns-2 : tie.Need-returns-2
 returns-2 c =
-    let k = c .before .before .before .before .before in
-    let s = start k in
-    make-here (s .args .nodes .now) (s .args .v .0) (s .args .low .0) (s .args .high .0) (s .pre) (k .before .if1 .left) _ (here c .1 ∙ k .pack .ensures)
+    let k = packing c in
+    make-here _ _ _ _ (start k .pre) (k .before .if1 .left) _ (here c .1 ∙ k .pack .ensures)
 
 same-length-2 : tie.Need-same-length-2
 same-length-2 c = search needs
 
 returns-3 : tie.Need-returns-3
 returns-3 c =
-    let k = c .before .before .before .before .before in
-    let s = start k in
-    make-empty (s .args .nodes .now) (s .args .v .0) (s .args .low .0) (s .args .high .0) (s .pre) (k .before .if1 .left) _ _ (k .pack .ensures)
-    (place c .0) (place c .1) (place c .2) (place c .3)
+    let k = packing-2 c in
+    make-empty _ _ _ _ (start k .pre) (k .before .if1 .left) _ _ (k .pack .ensures) (place c .0) (place c .1) (place c .2) (place c .3)
 
 same-length-3 : tie.Need-same-length-3
 same-length-3 c = search needs
@@ -110,9 +104,8 @@ same-length-3 c = search needs
 returns-4 : tie.Need-returns-4
 returns-4 c =
     let k = c .before .before .before .before in
-    let s = start k in
-    let p : Probed (s .args .nodes .now) (k .pack .result) Gone = rw (c .enum-told .given .1) at (c .before .before .probe .ensures) in
-    make-full (s .args .nodes .now) (s .args .v .0) (s .args .low .0) (s .args .high .0) (s .pre) (k .before .if1 .left) _ (k .pack .ensures) p
+    let p : Probed (room k) (k .pack .result) Gone = rw (c .enum-told .given .1) at (c .before .before .probe .ensures) in
+    make-full _ _ _ _ (start k .pre) (k .before .if1 .left) _ (k .pack .ensures) p
 
 pub make-spec : {M : Type 1} → statement M
 make-spec =

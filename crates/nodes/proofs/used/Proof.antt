@@ -1,10 +1,8 @@
 -- `used` meets its contract. The loop's invariant: what was counted and what is left to count are all words in use. Assumes nothing.
-use Prim.Native.Nat.{_+_, _-_, _≤_}
-use mathlib.Core.Path.{_≡_}
+use Prim.Native.Nat.{_-_}
 use mathlib.Core.Logic.{⊎-elim}
-use native.Mathlib.Omega.{arith}
 use borrow.Author.Needs.{needs}
-use lib.ListN.{length, drop}
+use lib.ListN.{length}
 use Rattle.nodes.proofs.Clearing.{Counting, counting-none, counting-one, counting-skip, counting-all}
 use Rattle.nodes.proofs.used.Statement.{statement}
 use Rattle.nodes.proofs.used.Tie as tie

@@ -14,10 +14,6 @@ use Rattle.nodes.proofs.Standing.{held}
 use Rattle.nodes.proofs.Walking.{Walked, walked-none, walked-off, walked-on, walked-high, walked-low, branch-variable, falls-high, falls-low}
 use Rattle.nodes.proofs.value.Statement.{statement}
 use Rattle.nodes.proofs.value.Tie as tie
-use Rattle.nodes.proofs.value.Reads as reads
-use Rattle.nodes.proofs.value.Lts as lts
-use Rattle.masks.proofs.Mask.has.Reads as has-reads
-use Rattle.nodes.proofs.look.Reads as look-reads
 
 -- what a look says, of the shape that it is
 shaped-as : (ws : List ℕ) (t : Tree) {r r′ : Shape} → r ≡ r′ → Shaped ws r t → Shaped ws r′ t
@@ -64,31 +60,34 @@ module _ (c : tie.After-known-told Inv-loop μ-loop) where
   abbrev start : tie.Start Inv-loop μ-loop
   start = at-look .before .before .before
 
-  branch : Shaped (start .args .nodes .now) (Branch (c .before .v .given .0 .0) (c .before .v .given .0 .1 .0) (c .before .v .given .0 .1 .1 .0)) (at-look .before .loop .inv .tree)
-  branch = shaped-as (start .args .nodes .now) (at-look .before .loop .inv .tree) (c .before .v .given .1) (at-look .look .ensures (at-look .before .loop .inv .tree) (at-look .before .loop .inv .stands))
+  abbrev walk : Walked (start .args .nodes .now) (number (start .args .kept)) (start .args .c .0) (at-look .before .loop .at .0)
+  walk = at-look .before .loop .inv
+
+  branch : Shaped (start .args .nodes .now) (Branch (c .before .v .given .0 .0) (c .before .v .given .0 .1 .0) (c .before .v .given .0 .1 .1 .0)) (walk .tree)
+  branch = shaped-as (start .args .nodes .now) (walk .tree) (c .before .v .given .1) (at-look .look .ensures (walk .tree) (walk .stands))
 
 has-requires : tie.Need-has-requires Inv-loop μ-loop
-has-requires c κs = branch-variable (start c .pre .0) (at-look c .before .loop .inv .stands) _ _ _ (branch c)
+has-requires c κs = branch-variable (start c .pre .0) (walk c .stands) _ _ _ (branch c)
 
 loop-less : tie.Need-loop-less Inv-loop μ-loop
 loop-less c =
     let k = c .before .before in
-    falls-high (start k .pre .0) (at-look k .before .loop .inv .stands) _ _ _ (branch k)
+    falls-high (start k .pre .0) (walk k .stands) _ _ _ (branch k)
 
 loop-again : tie.Need-loop-again Inv-loop μ-loop
 loop-again c =
     let k = c .before .before in
-    walked-high (at-look k .before .loop .inv) _ _ _ (branch k) (sym (c .before .has .ensures) ∙ c .if1 .taken)
+    walked-high (walk k) _ _ _ (branch k) (sym (c .before .has .ensures) ∙ c .if1 .taken)
 
 loop-less-2 : tie.Need-loop-less-2 Inv-loop μ-loop
 loop-less-2 c =
     let k = c .before .before in
-    falls-low (start k .pre .0) (at-look k .before .loop .inv .stands) _ _ _ (branch k)
+    falls-low (start k .pre .0) (walk k .stands) _ _ _ (branch k)
 
 loop-again-2 : tie.Need-loop-again-2 Inv-loop μ-loop
 loop-again-2 c =
     let k = c .before .before in
-    walked-low (at-look k .before .loop .inv) _ _ _ (branch k) (sym (c .before .has .ensures) ∙ c .if1 .left)
+    walked-low (walk k) _ _ _ (branch k) (sym (c .before .has .ensures) ∙ c .if1 .left)
 
 pub value-spec : {M : Type 1} → statement M
 value-spec =

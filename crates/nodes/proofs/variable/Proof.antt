@@ -4,11 +4,11 @@ use mathlib.Core.Path.{_≡_, refl}
 use mathlib.Core.List.{List}
 use Prim.Native.Nat.{ℕ, _<_}
 use native.Mathlib.Omega.{arith}
-use Rattle.trees.specs.Tree.{off, on, br, mk}
+use Rattle.trees.specs.Tree.{off, on, br}
 use Rattle.nodes.specs.Codes.{variables, is-off, is-on, Table}
 use Rattle.nodes.specs.Promise.{Outcome, Makeable, MakePromise}
 use Rattle.nodes.specs.declared.Made.{Made}
-use Rattle.nodes.proofs.Deciding.{mk-other}
+use Rattle.trees.proofs.Branches.{mk-other}
 use Rattle.nodes.proofs.variable.Statement.{statement}
 use Rattle.nodes.proofs.variable.Tie as tie
 

@@ -1,5 +1,7 @@
 -- `join` meets its contract: the measure is the number of remaining variables. What the calls give together is shown in Applying. Assumes nothing.
-use mathlib.Core.Path.{_≡_}
+use mathlib.Core.Path.{_≡_, subst}
+use mathlib.Core.Bool.{Bool}
+use mathlib.Core.List.{List}
 use Prim.Native.Nat.{ℕ, _≤_, _<_}
 use native.Mathlib.Omega.{arith}
 use lib.ListN.{length}
@@ -7,10 +9,7 @@ use borrow.Author.Needs.{needs}
 use borrow.Fn.Kinds.{In}
 use borrow.Fn.PlainCycle.{Measures, is, falls, and}
 use Rattle.nodes.specs.Work.{remaining, Known}
-use Rattle.nodes.specs.Promise.{Joined}
-use Rattle.nodes.specs.declared.Made.{Made}
-use Rattle.nodes.specs.declared.Made.the-variants.{At, Full}
-use Rattle.nodes.specs.declared.memos.Seen.the-variants.{Answer, Unknown}
+use Rattle.nodes.specs.declared.memos.Seen.{Seen}
 use Rattle.nodes.proofs.Standing.{stands-small}
 use Rattle.nodes.proofs.Applying as app
 use Rattle.nodes.proofs.joins.join.Reads as join
@@ -48,6 +47,10 @@ callees t = (
 
 -- ---- known joins
 
+-- what `known` says, of the answer that it gave
+known-as : (ms : List ℕ) (or : Bool) (a b : ℕ) {r r′ : Seen} → r ≡ r′ → Known ms or a b r → Known ms or a b r′
+known-as ms or a b e k = subst (Known ms or a b) e k
+
 join-known-requires : (t : ℕ) → join-lts.Need-known-requires (callees t) (join-at t) join.Post
 join-known-requires t c κs =
     let s = c .before .before .before in
@@ -65,7 +68,7 @@ join-returns t c =
     let k = c .before .before .before in
     let s = k .before .before .before .before in
     let x = s .pre .1 .0 in
-    let a : Known (s .args .memo .now) (s .args .or) (s .args .a .0) (s .args .b .0) (Answer (c .before .r .given .0 .0)) = rw (c .before .r .given .1) at (k .known .ensures) in
+    let a = known-as (s .args .memo .now) (s .args .or) _ _ (c .before .r .given .1) (k .known .ensures) in
     app.known-joined (s .args .or) (c .before .r .given .0 .0) x (λ u w su sw. a (s .args .nodes .now) u w (x .table) (x .memo) su sw)
 
 -- ---- taken apart
@@ -83,8 +86,7 @@ start t c = c .before .before .before .before .before .before
 both-nodes : (t : ℕ) (c : AtTold t) → (2 ≤ start t c .args .a .0) × (2 ≤ start t c .args .b .0)
 both-nodes t c =
     let s = start t c in
-    let k : Known (s .args .memo .now) (s .args .or) (s .args .a .0) (s .args .b .0) Unknown = rw (c .enum-told .given .1) at (c .before .before .known .ensures) in
-    k
+    known-as (s .args .memo .now) (s .args .or) _ _ (c .enum-told .given .1) (c .before .before .known .ensures)
 
 join-split-requires : (t : ℕ) → join-lts.Need-split-requires (callees t) (join-at t) join.Post
 join-split-requires t c κs =
@@ -98,7 +100,8 @@ AtSplit t = join-lts.After-split (callees t) (join-at t) join.Post
 abbrev from : (t : ℕ) → AtSplit t → join-lts.Start (callees t) (join-at t) join.Post
 from t d = start t (d .before .before)
 
-cut : (t : ℕ) (d : AtSplit t) → app.Cut (from t d .args .nodes .now) (from t d .args .memo .now) (from t d .args .a .0) (from t d .args .b .0) (d .split .result)
+cut : (t : ℕ) (d : AtSplit t)
+    → app.Cut (from t d .args .nodes .now) (from t d .args .memo .now) (from t d .args .a .0) (from t d .args .b .0) (d .split .result)
 cut t d =
     let k = both-nodes t (d .before .before) in
     record { able = from t d .pre .1 .0; a2 = k .0; b2 = k .1; splits = d .split .ensures }

@@ -1,7 +1,7 @@
 -- `split` meets its contract. Assumes nothing.
 use borrow.Author.Needs.{needs}
-use mathlib.Core.Path.{_≡_, refl, sym, ap, _∙_}
-use Prim.Native.Nat.{ℕ, _-_, _≤_, _<_}
+use mathlib.Core.Path.{_≡_, refl, ap, _∙_}
+use Prim.Native.Nat.{_-_}
 use native.Mathlib.Omega.{arith}
 use Rattle.nodes.specs.Packing.{variableOf, lowOf, highOf}
 use Rattle.nodes.specs.Codes.{word}
@@ -10,8 +10,6 @@ use Rattle.nodes.proofs.Standing.{stands-taken}
 use Rattle.nodes.proofs.Splitting.{split-less, split-more, split-both}
 use Rattle.nodes.proofs.joins.split.Statement.{statement}
 use Rattle.nodes.proofs.joins.split.Tie as tie
-use Rattle.nodes.proofs.joins.split.Reads as reads
-use Rattle.nodes.proofs.joins.split.Lts as lts
 
 word-at-requires : tie.Need-word-at-requires
 word-at-requires c κs =

@@ -1,18 +1,11 @@
 -- `recall` meets its contract. Assumes nothing.
 use borrow.Author.Needs.{needs}
-use mathlib.Core.Path.{_≡_, ap, _∙_}
-use Prim.Native.Nat.{ℕ, _^_, _<_}
 use native.Mathlib.Omega.{arith}
 use lib.Bits.{mask-lt}
 use lib.ListN.{getD}
-use Rattle.nodes.specs.Promise as promise
 use Rattle.nodes.proofs.Packings.{key-fits, noted-from}
 use Rattle.nodes.proofs.memos.recall.Statement.{statement}
 use Rattle.nodes.proofs.memos.recall.Tie as tie
-use Rattle.nodes.proofs.memos.recall.Reads as reads
-use Rattle.nodes.proofs.memos.recall.Lts as lts
-use Rattle.nodes.proofs.memos.key.Reads as key-reads
-use Rattle.nodes.proofs.words.home.Reads as home-reads
 
 key-requires : tie.Need-key-requires
 key-requires c κs = search needs
@@ -32,8 +25,11 @@ returns : tie.Need-returns
 returns c =
     let s = c .before .before .before .before .before in
     let k = c .before .before .before in
-    let i = c .before .before .home .result in
-    (i, noted-from (s .args .or) (s .args .a .0) (s .args .b .0) (k .key .result) (k .key .ensures) _ (c .if1 .taken), mask-lt (getD (s .args .memo .now) i 0) 17)
+    let i = c .before .before .home .result in (
+      i,
+      noted-from (s .args .or) (s .args .a .0) (s .args .b .0) (k .key .result) (k .key .ensures) _ (c .if1 .taken),
+      mask-lt (getD (s .args .memo .now) i 0) 17,
+    )
 
 returns-2 : tie.Need-returns-2
 returns-2 c = search needs

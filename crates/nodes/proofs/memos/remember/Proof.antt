@@ -1,17 +1,11 @@
 -- `remember` meets its contract. Assumes nothing.
 use borrow.Author.Needs.{needs}
-use mathlib.Core.Path.{_≡_, ap, _∙_}
-use Prim.Native.Nat.{ℕ, _^_, _<_}
+use mathlib.Core.Path.{ap}
 use native.Mathlib.Omega.{arith}
 use lib.ListN.{set}
-use Rattle.nodes.specs.Promise as promise
 use Rattle.nodes.proofs.Packings.{key-fits, noted-is}
 use Rattle.nodes.proofs.memos.remember.Statement.{statement}
 use Rattle.nodes.proofs.memos.remember.Tie as tie
-use Rattle.nodes.proofs.memos.remember.Reads as reads
-use Rattle.nodes.proofs.memos.remember.Lts as lts
-use Rattle.nodes.proofs.memos.key.Reads as key-reads
-use Rattle.nodes.proofs.words.home.Reads as home-reads
 
 key-requires : tie.Need-key-requires
 key-requires c κs = search needs

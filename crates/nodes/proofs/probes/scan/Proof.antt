@@ -1,7 +1,7 @@
 -- `scan` meets its contract. The loop's invariant: the slots passed are in use, and none of them holds the word. Assumes nothing.
-use Prim.Native.Nat.{ℕ, _≤_, _-_}
+use Prim.Native.Nat.{_≤_, _-_}
 use native.Mathlib.Omega.{arith}
-use borrow.Author.Needs.{needs, scaled-fits}
+use borrow.Author.Needs.{scaled-fits}
 use mathlib.Core.Path.{_≡_}
 use lib.ListN.{length}
 use Rattle.nodes.specs.Work.{Passed}

@@ -1,6 +1,6 @@
 -- `home` meets its contract: the product of a mixed word and a length below 2^32 doesn't wrap. Assumes nothing.
 use borrow.Author.Needs.{needs}
-use mathlib.Core.Path.{_≡_, ap, _∙_, subst, sym}
+use mathlib.Core.Path.{_≡_, ap, _∙_}
 use Prim.Native.Nat.{ℕ, _*_, _/_, _^_, _<_}
 use native.Mathlib.Omega.{arith}
 use Rattle.nodes.specs.Codes as codes

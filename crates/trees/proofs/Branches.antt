@@ -1,16 +1,34 @@
--- Joins of trees, as the code makes them: with a constant, with itself, and one decision of two branches at the lower variable. Assumes nothing.
-use mathlib.Core.Path.{_≡_, refl, sym, ap, ap₂, subst, _∙_}
-use mathlib.Core.Logic.{_≢_}
+-- Decisions and joins, taken apart: what `mk` is and which parts it has; a join with a constant, with itself, and of two branches, one decision at the
+-- lower variable. Assumes nothing.
+use mathlib.Core.Path.{_≡_, refl, sym, subst, _∙_}
+use mathlib.Core.Logic.{_≢_, inr}
 use mathlib.Core.Bool.{Bool, true, false}
-use Prim.Native.Nat.{ℕ, suc, _≤_, _<_, compare, Ordering, Ordering·lt, Ordering·eq, Ordering·gt}
+use Prim.Native.Nat.{ℕ, _<_, compare, Ordering, Ordering·lt, Ordering·eq, Ordering·gt}
 use native.Mathlib.Omega.{arith}
 use Rattle.masks.specs.Sets.{pick}
 use Rattle.masks.proofs.Tests.{Stand, stand}
-use Rattle.trees.specs.Tree.{Tree, off, on, br, eval, mk, op, pick3, joinBr, joinT}
+use Rattle.graphs.specs.Graph.{Of}
+use Rattle.graphs.proofs.Lists.{Of-left, Of-right}
+use Rattle.trees.specs.Tree.{Tree, off, on, br, eval, mk, op, pick3, joinBr, joinT, subs}
 use Rattle.trees.proofs.Canonical.{Good, canon}
-use Rattle.trees.proofs.Joins.{joinT-eval, joinT-good}
+use Rattle.trees.proofs.Joins.{mk-is, joinT-eval, joinT-good}
 
--- ---- with a constant, and with itself
+-- ---- a decision
+
+module _ (v : ℕ) (l h : Tree) where
+  pub mk-same : l ≡ h → mk v l h ≡ l
+  mk-same e = mk-is (λ t. t ≡ l) v l h (λ k. refl) (λ k. absurd (k e))
+
+  pub mk-other : l ≢ h → mk v l h ≡ br v l h
+  mk-other d = mk-is (λ t. t ≡ br v l h) v l h (λ e. absurd (d e)) (λ k. refl)
+
+  pub part-low : (u : Tree) → Of u (subs l) → Of u (subs (mk v l h))
+  part-low u p = mk-is (λ t. Of u (subs t)) v l h (λ e. p) (λ k. inr (Of-left u (subs l) (subs h) p))
+
+  pub part-high : (u : Tree) → Of u (subs h) → Of u (subs (mk v l h))
+  part-high u p = mk-is (λ t. Of u (subs t)) v l h (λ e. subst (λ t. Of u (subs t)) (sym e) p) (λ k. inr (Of-right u (subs l) (subs h) p))
+
+-- ---- a join with a constant, and with itself
 
 -- the constant that a join with it leaves as it is, and the one that it becomes
 abbrev pub unitT : Bool → Tree
@@ -19,33 +37,19 @@ unitT or = pick or off on
 abbrev pub zeroT : Bool → Tree
 zeroT or = pick or on off
 
-pub join-unit-l : (or : Bool) (t : Tree) → joinT or (unitT or) t ≡ t
+pub join-left : (or : Bool) (t : Tree) → (joinT or (unitT or) t ≡ t) × (joinT or (zeroT or) t ≡ zeroT or)
 unfolding joinT
-join-unit-l true t = refl
-join-unit-l false t = refl
+join-left true t = (refl, refl)
+join-left false t = (refl, refl)
 
-pub join-zero-l : (or : Bool) (t : Tree) → joinT or (zeroT or) t ≡ zeroT or
-unfolding joinT
-join-zero-l true t = refl
-join-zero-l false t = refl
-
-pub join-unit-r : (or : Bool) (t : Tree) → joinT or t (unitT or) ≡ t
+pub join-right : (or : Bool) (t : Tree) → (joinT or t (unitT or) ≡ t) × (joinT or t (zeroT or) ≡ zeroT or)
 unfolding joinT joinBr
-join-unit-r true off = refl
-join-unit-r true on = refl
-join-unit-r true (br v l h) = refl
-join-unit-r false off = refl
-join-unit-r false on = refl
-join-unit-r false (br v l h) = refl
-
-pub join-zero-r : (or : Bool) (t : Tree) → joinT or t (zeroT or) ≡ zeroT or
-unfolding joinT joinBr
-join-zero-r true off = refl
-join-zero-r true on = refl
-join-zero-r true (br v l h) = refl
-join-zero-r false off = refl
-join-zero-r false on = refl
-join-zero-r false (br v l h) = refl
+join-right true off = (refl, refl)
+join-right true on = (refl, refl)
+join-right true (br v l h) = (refl, refl)
+join-right false off = (refl, refl)
+join-right false on = (refl, refl)
+join-right false (br v l h) = (refl, refl)
 
 pub join-self : (or : Bool) (t : Tree) (b : ℕ) → Good b t → joinT or t t ≡ t
 join-self or t b g = canon b b (joinT or t t) t (joinT-good or t t b g g) g (λ m. joinT-eval or t t m ∙ same or (eval t m))
@@ -56,7 +60,7 @@ join-self or t b g = canon b b (joinT or t t) t (joinT-good or t t b g g) g (λ 
     same false true = refl
     same false false = refl
 
--- ---- one decision of two branches
+-- ---- a join of two branches
 
 module _ (or : Bool) (v w : ℕ) (l h p q : Tree) where
   -- the three ways of a join, by how the variables compare
