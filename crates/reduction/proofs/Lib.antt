@@ -9,3 +9,9 @@ pub mod States
 pub mod Next
 pub mod Runs
 pub mod Sound
+pub mod Trials
+pub mod Sides
+pub mod Stores
+pub mod Choices
+pub mod Logs
+pub mod Answers

@@ -50,10 +50,10 @@ start-sane rows fit =
 
 -- ---- the edges that each rule leaves
 
-bare-self : (v : ℕ) (rows : List ℕ) (a : ℕ) → a ≡ v → getD (bare v rows) a 0 ≡ 0
+pub bare-self : (v : ℕ) (rows : List ℕ) (a : ℕ) → a ≡ v → getD (bare v rows) a 0 ≡ 0
 bare-self v rows a e = ap (λ x. getD (bare v rows) x 0) e ∙ set-zero (map (λ r. cut r v) rows) v
 
-bare-other : (v : ℕ) (rows : List ℕ) (a : ℕ) → a ≢ v → getD (bare v rows) a 0 ≡ cut (getD rows a 0) v
+pub bare-other : (v : ℕ) (rows : List ℕ) (a : ℕ) → a ≢ v → getD (bare v rows) a 0 ≡ cut (getD rows a 0) v
 bare-other v rows a k = getD-set-other (map (λ r. cut r v) rows) v a 0 0 k ∙ map-row (λ r. cut r v) (cut-gone 0 v (bit-zero v)) rows a
 
 pub remove-arcs : (v : ℕ) (s : State) (a b : ℕ) → arcs (remove v s) a b ≡ without (arcs s) v a b
