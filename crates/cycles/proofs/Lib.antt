@@ -11,8 +11,15 @@ pub mod Stops
 pub mod PassTrees
 pub mod FineTrees
 pub mod Models
+pub mod Holdings
+pub mod Sums
+pub mod Settles
+pub mod Passing
+pub mod Rounds
+pub mod Builds
 pub mod Picks
 pub mod Fits
 pub mod Asks
+pub mod Asking
 pub mod Blocks
 pub mod Useless
