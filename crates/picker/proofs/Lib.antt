@@ -6,3 +6,12 @@ pub mod Computing
 pub mod Blocks
 pub mod Useless
 pub mod Errors
+pub mod Extra
+pub mod Notes
+pub mod Choosing
+pub mod Summing
+pub mod Walking
+pub mod OneComponent
+pub mod EachComponent
+pub mod Reducing
+pub mod Lending

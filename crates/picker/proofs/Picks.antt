@@ -50,7 +50,7 @@ best-lightest low comp c =
 module _ {E : ℕ → ℕ → Bool} {n : ℕ} {Cs : List ℕ} (low : EdgesBelow E n) (comps : Components E Cs) (c : ℕ → ℕ) (f : ℕ → ℕ)
     (lights : (C : ℕ) → Of C Cs → Lightest c n (Within C) (inside E C) (f C)) where
   -- a flip-flop of the lightest sets of the components is on a loop, so it has an edge
-  has-edge : (v : ℕ) → T (bit (joined (map f Cs)) v) → (w : ℕ) × T (E v w)
+  pub has-edge : (v : ℕ) → T (bit (joined (map f Cs)) v) → (w : ℕ) × T (E v w)
   has-edge v t =
       let r = joined-cases (map f Cs) v t in
       let q = Of-from f (r .0) Cs (r .1) in
@@ -82,7 +82,7 @@ module _ (c : ℕ → ℕ) (rows : List ℕ) (fit : RowsFit rows) where
   abbrev s : State
   s = reduced c rows
 
-  sane : Sane (length rows) s
+  pub sane : Sane (length rows) s
   sane = start-run-sane c rows fit (length rows)
 
   pub reduced-fits : RowsFit (s .rows)
@@ -91,7 +91,7 @@ module _ (c : ℕ → ℕ) (rows : List ℕ) (fit : RowsFit rows) where
   pub reduced-edges : EdgesBelow (edge (s .rows)) (length rows)
   reduced-edges = rw (← sane .many) (edges-below (s .rows) reduced-fits)
 
-  reduced-live : (u w : ℕ) → T (edge (s .rows) u w) → T (bit (s .live) u)
+  pub reduced-live : (u w : ℕ) → T (edge (s .rows) u w) → T (bit (s .live) u)
   unfolding edge
   reduced-live u w t = sane .among u w (T-and (not (eqb u w)) (bit (getD (s .rows) u 0) w) t .1) .0
 

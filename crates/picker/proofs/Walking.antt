@@ -1,0 +1,206 @@
+-- The walk along the paths to 0: what is known at a branch, that fewer variables remain on its sides, and that the answer for the branch follows from those
+-- for the sides. Assumes nothing.
+use mathlib.Core.Path.{_≡_, refl, sym, ap, ap₂, _∙_, subst}
+use mathlib.Core.List.{List}
+use mathlib.Core.Option.{Option, none, some}
+use Prim.Native.Nat.{ℕ, suc, _-_, _^_, _≤_, _<_}
+use native.Mathlib.Omega.{arith}
+use lib.ListN.{length, getD}
+use Rattle.masks.specs.Sets.{number}
+use Rattle.masks.specs.declared.Mask.{Mask}
+use Rattle.masks.specs.declared.Vertex.{Vertex}
+use Rattle.masks.proofs.Weights.{weight-none}
+use Rattle.trees.specs.Tree.{Tree, off, on, br, Ordered}
+use Rattle.trees.specs.Best.{Frees, Under, held, lighter, best}
+use Rattle.trees.proofs.Bests.{Answer, best-answer}
+use Rattle.nodes.specs.Codes.{variables, level, Stands, is-br, Held}
+use Rattle.nodes.specs.Promise.{LookPromise}
+use Rattle.nodes.specs.declared.Node.{Node}
+use Rattle.nodes.specs.declared.Shape.{Shape}
+use Rattle.nodes.specs.declared.Shape.the-variants.{Off, On, Branch}
+use Rattle.nodes.proofs.Standing.{stands-one, stands-small, level-node, level-above}
+use Rattle.picker.specs.Promise.{costOf}
+use Rattle.picker.specs.Work.{setOf, Priced, Lacking, Told, LighterPromise, Memo, Small, Recalled, Remembered, Walkable, Walked}
+use Rattle.picker.specs.declared.best.Best.{Best}
+use Rattle.picker.specs.declared.best.Best.the-variants.{Set, Nothing}
+use Rattle.picker.proofs.Choosing.{weight-small}
+
+-- the number of variables that remain for a walk from a code
+abbrev pub remaining : List ℕ → ℕ → ℕ
+remaining ws c = variables - level ws c
+
+pub holds-tree : {ws ms costs : List ℕ} {code : ℕ} → Walkable ws ms costs code → Held ws 0 code
+holds-tree w = record { tree = w .tree; stands = w .stands; ordered = w .ordered }
+
+-- ---- an answer for the tree is one for whatever the code stands for
+
+module _ {ws ms costs : List ℕ} {code : ℕ} (w : Walkable ws ms costs code) where
+  walked : (ms′ : List ℕ) (r : Best) → Told (costOf costs) (length costs) (w .tree) r → Memo (costOf costs) (length costs) ws ms′ → Walked ws ms′ costs code r
+  walked ms′ r t m = record { told = λ u s. subst (λ x. Told (costOf costs) (length costs) x r) (stands-one (w .stands) s) t; memo = m }
+
+  -- ---- the ends
+
+  pub walked-off : {r : Shape} (S : Mask) → r ≡ Off → LookPromise ws code r → number S ≡ 0 → Walked ws ms costs code (Set 0 S)
+  walked-off S e p z =
+      let q : LookPromise ws code Off = subst (LookPromise ws code) e p in
+      walked ms (Set 0 S) (rw (q (w .tree) (w .stands)) (record { set = ap some z; priced = rw z (sym (weight-none (costOf costs) (length costs))) })) (w .memo)
+
+  pub walked-on : {r : Shape} → r ≡ On → LookPromise ws code r → Walked ws ms costs code Nothing
+  walked-on e p =
+      let q : LookPromise ws code On = subst (LookPromise ws code) e p in
+      walked ms Nothing (rw (q (w .tree) (w .stands)) (record { set = refl; priced = tt })) (w .memo)
+
+  -- what is remembered
+  pub walked-known : {r : Best} (k : ℕ) (S : Mask) → r ≡ Set k S → Recalled ms code r → Walked ws ms costs code (Set k S)
+  walked-known k S e p =
+      let q : Recalled ms code (Set k S) = subst (Recalled ms code) e p in
+      record { told = q (costOf costs) (length costs) ws (w .memo); memo = w .memo }
+
+-- ---- a branch
+
+-- the code stands for a decision over v, whose branches have the codes lo and hi
+pub record Branching (ws costs : List ℕ) (code v lo hi : ℕ) : Type 0 where
+  pub low : Tree
+  pub high : Tree
+  pub whole : Stands ws code (br v low high)
+  pub at-low : Stands ws lo low
+  pub at-high : Stands ws hi high
+  pub variable : v < length costs
+  pub ordered-low : Ordered (suc v) low
+  pub ordered-high : Ordered (suc v) high
+  pub under-low : Under (length costs) low
+  pub under-high : Under (length costs) high
+
+pub branching : {ws ms costs : List ℕ} {code : ℕ} {r : Shape} {v : Vertex} {lo hi : Node} → Walkable ws ms costs code → r ≡ Branch v lo hi
+    → LookPromise ws code r → Branching ws costs code (v .0) (lo .0) (hi .0)
+branching {ws} {ms} {costs} {code} {r} {v} {lo} {hi} w e p =
+    let q : LookPromise ws code (Branch v lo hi) = subst (LookPromise ws code) e p in
+    let s = q (w .tree) (w .stands) in
+    let o : Ordered 0 (br (v .0) (s .0) (s .1)) = subst (Ordered 0) (s .2) (w .ordered) in
+    let u : Under (length costs) (br (v .0) (s .0) (s .1)) = subst (Under (length costs)) (s .2) (w .under) in
+    record {
+      low = s .0;
+      high = s .1;
+      whole = subst (Stands ws code) (s .2) (w .stands);
+      at-low = s .3;
+      at-high = s .4;
+      variable = u .0;
+      ordered-low = o .1;
+      ordered-high = o .2;
+      under-low = u .1;
+      under-high = u .2;
+    }
+
+level-br : {ws : List ℕ} {c v : ℕ} {l h : Tree} → Stands ws c (br v l h) → level ws c ≡ v
+level-br {ws} {c} (is-br p z e sl sh) = level-node ws c p ∙ e
+
+ordered-from : (b : ℕ) (t : Tree) → Ordered b t → Ordered 0 t
+ordered-from b off o = tt
+ordered-from b on o = tt
+ordered-from b (br v l h) o = (omega arith, o .1, o .2)
+
+module _ {ws ms costs : List ℕ} {code v lo hi : ℕ} (w : Walkable ws ms costs code) (b : Branching ws costs code v lo hi) where
+  pub code-small : code < 2 ^ 17
+  code-small = stands-small (w .small) (w .stands)
+
+  -- ---- down a side, with a memo that is right
+
+  module _ (ms′ : List ℕ) (size : 2 ≤ length ms′) (m : Memo (costOf costs) (length costs) ws ms′) where
+    pub walk-low : Walkable ws ms′ costs lo
+    walk-low =
+        record {
+          small = w .small;
+          few = w .few;
+          tree = b .low;
+          stands = b .at-low;
+          ordered = ordered-from (suc v) (b .low) (b .ordered-low);
+          under = b .under-low;
+          pairs = size;
+          memo = m;
+        }
+
+    pub walk-high : Walkable ws ms′ costs hi
+    walk-high =
+        record {
+          small = w .small;
+          few = w .few;
+          tree = b .high;
+          stands = b .at-high;
+          ordered = ordered-from (suc v) (b .high) (b .ordered-high);
+          under = b .under-high;
+          pairs = size;
+          memo = m;
+        }
+
+  -- fewer variables remain there
+  pub falls-low : remaining ws lo < remaining ws code
+  falls-low =
+      omega (
+        arith,
+        level-br (b .whole),
+        level-above {ws = ws} {k = suc v} {c = lo} (omega (arith, b .variable, w .few)) (b .at-low) (b .ordered-low),
+        b .variable,
+        w .few,
+      )
+
+  pub falls-high : remaining ws hi < remaining ws code
+  falls-high =
+      omega (
+        arith,
+        level-br (b .whole),
+        level-above {ws = ws} {k = suc v} {c = hi} (omega (arith, b .variable, w .few)) (b .at-high) (b .ordered-high),
+        b .variable,
+        w .few,
+      )
+
+  -- ---- back up: x and y are the answers for the sides
+
+  -- the best set of the low side lacks v
+  pub lacks : (x : Best) → Told (costOf costs) (length costs) (b .low) x → Lacking v x
+  lacks Nothing t = tt
+  lacks (Set k S) t =
+      let a : Answer (costOf costs) (length costs) (suc v) (Frees (b .low)) (some (number S)) =
+      subst (Answer (costOf costs) (length costs) (suc v) (Frees (b .low))) (sym (t .set))
+      (best-answer (costOf costs) (length costs) (b .low) (suc v) (b .ordered-low) (b .under-low)) in
+      a .clear v (omega arith)
+
+  module _ {x y : Best} (z r : Best) (tx : Told (costOf costs) (length costs) (b .low) x) (ty : Told (costOf costs) (length costs) (b .high) y)
+      (hold : (setOf z ≡ held v (setOf x)) × Priced (costOf costs) (length costs) z) (light : LighterPromise z y r) where
+    told-whole : Told (costOf costs) (length costs) (br v (b .low) (b .high)) r
+    told-whole =
+        let f = light (costOf costs) (length costs) (hold .1) (ty .priced) in
+        record {
+          set = f .0 ∙ ap₂ (lighter (costOf costs) (length costs)) (hold .0 ∙ ap (held v) (tx .set)) (ty .set);
+          priced = f .1;
+        }
+
+    pub small-whole : ((u : ℕ) → getD costs u 0 < 2 ^ 32) → Small r
+    small-whole h = go r (told-whole .priced)
+      where
+        go : (s : Best) → Priced (costOf costs) (length costs) s → Small s
+        go Nothing p = tt
+        go (Set k S) p = omega (arith, weight-small costs (number S) (w .few) h)
+
+    pub walked-whole : (ms₁ ms₂ : List ℕ) → Memo (costOf costs) (length costs) ws ms₁ → Remembered ms₁ ms₂ code r → Walked ws ms₂ costs code r
+    walked-whole ms₁ ms₂ m p =
+        let t : (u : Tree) → Stands ws code u → Told (costOf costs) (length costs) u r =
+        λ u s. subst (λ a. Told (costOf costs) (length costs) a r) (stands-one (b .whole) s) told-whole in
+        record { told = t; memo = p (costOf costs) (length costs) ws m t }
+
+-- ---- the set that was found, where there is one
+
+module _ {ws ms costs : List ℕ} {code : ℕ} {r : Best} (w : Walked ws ms costs code r) (t : Tree) (S : ℕ) (s : Stands ws code t)
+    (e : best (costOf costs) (length costs) t ≡ some S) where
+  found : setOf r ≡ some S
+  found = w .told t s .set ∙ e
+
+  pub found-set : (k : ℕ) (R : Mask) → r ≡ Set k R → number R ≡ S
+  found-set k R q =
+      let f : _≡_ {A = Option ℕ} (some (number R)) (some S) = subst (λ x. setOf x ≡ some S) q found in
+      cc
+
+  pub found-nothing : r ≡ Nothing → ⊥
+  found-nothing q =
+      let f : _≡_ {A = Option ℕ} none (some S) = subst (λ x. setOf x ≡ some S) q found in
+      let z : _≡_ {A = ℕ} 0 1 = cc in
+      omega arith
