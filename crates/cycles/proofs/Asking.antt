@@ -241,10 +241,6 @@ lines-are rows = rw (eq-eqb (length rows) (length rows) refl)
 pub kept-test : (n kept m below rest : ℕ) (x : Bool) → m ≡ kept → below ≡ 2 ^ n - 1 → rest ≡ minus m below → x ≡ eqb rest 0 → leb (2 ^ n) kept ≡ not x
 kept-test n kept m below rest x p q e f = wide-test n kept ∙ ap not (sym (f ∙ ap (λ (y : ℕ). eqb y 0) (e ∙ ap₂ minus p q)))
 
-pub number-of : (k : ℕ) → number (record { 0 = k }) ≡ k
-unfolding number
-number-of k = refl
-
 module _ (rows : List ℕ) (kept : ℕ) (nodes memo : List ℕ) (ch : Checked) (c : checkRefusal ch ≡ first (checks rows (length rows))) where
   abbrev promised : Option Refusal → Asked → List ℕ → List ℕ → Type 0
   promised o r nodes′ memo′ = AskCases o rows kept nodes memo r nodes′ memo′

@@ -45,7 +45,7 @@ pub fn ask(rows: &[u64], kept: u64, nodes: &mut [u64], memo: &mut [u64]) -> Aske
     if let Checked::Refused(refusal) = checked {
         return Asked::Refused(refusal);
     }
-    let keep = Mask(kept);
+    let keep = Mask::of(kept);
     if !keep.without(Mask::below(n)).is_empty() {
         return Asked::Refused(Refusal {
             number: 9,

@@ -25,6 +25,20 @@ impl Mask {
         Mask(0)
     }
 
+    // The set that a number stands for.
+    pub fn of(word: u64) -> Mask
+        ensures { λ r. ⌜ number r ≡ word ⌝ }
+    {
+        Mask(word)
+    }
+
+    // The number that stands for the set.
+    pub fn word(self) -> u64
+        ensures { λ r. ⌜ r ≡ number self ⌝ }
+    {
+        self.0
+    }
+
     // All flip-flops below n.
     pub fn below(n: usize) -> Mask
         requires { ⌜ n ≤ 64 ⌝ }
