@@ -6,6 +6,11 @@ cd "$(dirname "$0")/.." || exit 1
 room=$(mktemp -d)
 trap 'rm -rf "$room"' EXIT
 
+if ! ./scanpick examples/empty.fvg >/dev/null; then
+    echo 'scripts: no checks made, since there is no proved program'
+    exit 1
+fi
+
 # One check: the command ends with status 0. Checks are counted in files, since many are made at the end of a pipe, in a shell of their own.
 check() { # WHAT COMMAND..
     echo >>"$room/checks"
@@ -123,7 +128,7 @@ refuses 1 "block-show: $room: Is a directory" tools/block-show "$room"
 # ---- block-draw; the folder tools has no Graphviz and no rt
 
 mkdir "$room/tools"
-for tool in bash cat chmod date dirname find mkdir readlink sed touch; do ln -s "$(command -v $tool)" "$room/tools/$tool"; done
+for tool in bash cat chmod date dirname find mkdir readlink rm sed touch; do ln -s "$(command -v $tool)" "$room/tools/$tool"; done
 ln -s "$(python3 -c 'import sys; print(sys.executable)')" "$room/tools/python3"
 without() { PATH=$room/tools "$@"; }
 
@@ -200,9 +205,11 @@ cat >/dev/null
 [ "$*" = 'check scanpick' ] && [ -f crates.txt ] || exit 2
 echo 'fn one::of_many: proved'
 echo 'rt: one proved (0 s)'
-mkdir -p target/bin
-[ -e target/bin/scanpick ] || printf '#!/bin/sh\nexec cat\n' >target/bin/scanpick
+mkdir -p target/bin target/stamp
+[ ! -e target/stamp/scanpick ] || exit 0
+printf '#!/bin/sh\nexec cat\n' >target/bin/scanpick
 chmod +x target/bin/scanpick
+touch target/stamp/scanpick
 END
 chmod +x "$room/tools/rt"
 says 'the first time' "$proving" 'rt: one proved (0 s)'
@@ -216,10 +223,12 @@ for part in crates.txt crates crates/one; do
     silent "$part is newer, but the program need not change"
 done
 rm "$program"
+says 'the program alone removed' "$proving" 'rt: one proved (0 s)'
+rm "$program"
 printf '#!/bin/sh\necho "rt: one proved (unchanged)"\n' >"$room/tools/rt"
 refuses 2 "$proving
 rt: one proved (unchanged)
-scanpick: rt left no target/bin/scanpick, as it does where that alone was removed; remove target/ and try again" pick examples/a.txt
+scanpick: rt left no target/bin/scanpick; remove target/ and try again" pick examples/a.txt
 printf '#!/bin/sh\ntouch target/bin/scanpick\nchmod +x target/bin/scanpick\necho "rt: FAILED: one"\nexit 1\n' >"$room/tools/rt"
 for _ in first second; do
     refuses 1 "$proving
