@@ -2,21 +2,22 @@
 -- goes from each found one to the next meets exactly the components, in order. Assumes nothing.
 use mathlib.Core.Path.{_≡_, refl, sym, ap, _∙_, subst}
 use mathlib.Core.Logic.{_≢_, inl, inr, ⊎-elim, Iff·trans, Iff·symm}
-use mathlib.Core.Bool.{Bool}
+use mathlib.Core.Bool.{Bool, true, false}
 use mathlib.Core.List.{List, [], _∷_, _++_, append-assoc, append-nil}
 use mathlib.Core.Option.{none}
 use Prim.Native.Nat.{ℕ, _+_, _≤_, _<_}
 use native.Mathlib.Omega.{arith}
 use native.Mathlib.Decide.{ℕ-discrete, decLt}
-use lib.Dec.{T}
+use lib.Dec.{T, eqb, eqb→eq}
 use lib.ListN.{length, getD}
+use borrow.Author.Tests.{eq-eqb}
 use Rattle.masks.specs.Sets.{bit, lowest}
 use Rattle.masks.proofs.Bits.{same-members, not-zero}
 use Rattle.masks.proofs.Nexts.{onward, Next, next-is}
 use Rattle.graphs.specs.Graph.{edge, Of}
 use Rattle.graphs.specs.Components.{Component, Lowest, Ascending, Components}
 use Rattle.graphs.specs.Refusals.{first, checks}
-use Rattle.graphs.specs.Work.{Sound, Reaching, Around, NextComponent}
+use Rattle.graphs.specs.Work.{Sound, Reaching, Around, Leads, NextComponent}
 use Rattle.graphs.proofs.Lists.{Of-cases, Of-right}
 use Rattle.graphs.proofs.Walks.{source-lt}
 use Rattle.graphs.proofs.Loops.{edge-from}
@@ -62,6 +63,19 @@ module _ {E : ℕ → ℕ → Bool} {v : ℕ} (C : ℕ) (small : v < 64) (around
       go (no j) =
           let j′ : ¬ (v < r) = j in
           omega (arith, low .least r (x .found (omega arith) .1))
+
+-- one that is on no loop leads none
+pub unreached-none : {E : ℕ → ℕ → Bool} (reached : List ℕ) (v : ℕ) → Reaching E reached → bit (getD reached v 0) v ≡ false
+    → (D : ℕ) → Component E D → Lowest D v → ⊥
+unreached-none reached v right e D p l = subst T e (right v v .1 (component-at p v (l .holds) v .0 (l .holds) .0))
+
+-- as a test tells it
+pub leads-test : {E : ℕ → ℕ → Bool} {v : ℕ} (C : ℕ) → v < 64 → Around E v C → (x : Bool) → x ≡ eqb (lowest 64 (onward C 0)) v → Leads E v x
+leads-test {v = v} C small around true e =
+    let led = leads-one C small around (eqb→eq (lowest 64 (onward C 0)) v (subst T e tt)) in
+    (C, led .0, led .1)
+leads-test {v = v} C small around false e =
+    leads-none C small around (λ q. subst T (sym e) (subst T (sym (eq-eqb (lowest 64 (onward C 0)) v q)) tt))
 
 -- one more that leads none
 pub past-more : {E : ℕ → ℕ → Bool} {from v : ℕ} → ((u C : ℕ) → from ≤ u → u < v → Component E C → Lowest C u → ⊥)

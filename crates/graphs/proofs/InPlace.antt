@@ -1,17 +1,17 @@
 -- Who reaches whom, computed in place: the rows with self edges dropped, each row that holds k with row k taken in, one after the other, and what the rows are
 -- after those below k were taken in. Rows past the last are 0. Assumes nothing.
-use mathlib.Core.Path.{_≡_, sym, ap, ap₂, _∙_, subst}
+use mathlib.Core.Path.{_≡_, refl, sym, ap, ap₂, _∙_, subst}
 use mathlib.Core.Logic.{_↔_}
-use mathlib.Core.Bool.{true, false}
+use mathlib.Core.Bool.{Bool, true, false}
 use mathlib.Core.List.{List}
 use Prim.Native.Nat.{ℕ, suc, _+_, _≤_, _<_}
 use native.Mathlib.Omega.{arith}
 use native.Mathlib.Numerals.{add-one}
 use native.Mathlib.Decide.{decLt}
-use lib.Bits.{bitOr}
+use lib.Bits.{bitOr, or-zero-r}
 use lib.Dec.{T}
 use lib.ListN.{length, getD, set, replicate, length-replicate, getD-replicate, List·getD-eq-default}
-use Rattle.masks.specs.Sets.{bit, cut}
+use Rattle.masks.specs.Sets.{bit, cut, pick}
 use Rattle.masks.proofs.Bits.{bit-zero}
 use Rattle.graphs.specs.Graph.{edge, plain, Walk}
 use Rattle.graphs.specs.Components.{every}
@@ -83,6 +83,14 @@ pub taken-all : (k n u : ℕ) (old rows : List ℕ) → ((w : ℕ) → n ≤ w �
     → (w : ℕ) → TakenIn k old w (getD rows w 0)
 taken-all k n u old rows none l r =
     rowed-all (TakenIn k old) old u rows (λ w i. none w (omega arith) ∙ sym (taken-none k old w (none w (omega arith)))) r
+
+-- an empty row adds nothing
+pub taken-idle : (k : ℕ) (rows : List ℕ) → getD rows k 0 ≡ 0 → (u : ℕ) → getD rows u 0 ≡ takenIn k rows u
+taken-idle k rows e u = rw e (go (bit (getD rows u 0) k))
+  where
+    go : (x : Bool) → getD rows u 0 ≡ pick x (bitOr (getD rows u 0) 0) (getD rows u 0)
+    go true = sym (or-zero-r (getD rows u 0))
+    go false = refl
 
 -- ---- all of them
 

@@ -1,6 +1,6 @@
 -- What only the contracts of the code and its proofs cite: no part of document 01. Assumes nothing.
 use mathlib.Core.Logic.{_↔_}
-use mathlib.Core.Bool.{Bool}
+use mathlib.Core.Bool.{Bool, true, false}
 use mathlib.Core.List.{List}
 use Prim.Native.Nat.{ℕ, _≤_, _<_, _^_}
 use lib.Bits.{bitOr}
@@ -26,6 +26,11 @@ Reaching E reached = (u w : ℕ) → T (bit (getD reached u 0) w) ↔ Walk E eve
 -- C is all that v reaches and is reached by
 abbrev pub Around : (ℕ → ℕ → Bool) → ℕ → ℕ → Type 0
 Around E v C = (w : ℕ) → T (bit C w) ↔ (Walk E every v w × Walk E every w v)
+
+-- whether v is the lowest flip-flop of a component of E
+abbrev pub Leads : (ℕ → ℕ → Bool) → ℕ → Bool → Type 0
+Leads E v true = (C : ℕ) × Component E C × Lowest C v
+Leads E v false = (C : ℕ) → Component E C → Lowest C v → ⊥
 
 -- r is the lowest flip-flop at or above `from` that is the lowest of a component of E, or n where there is none below n
 pub record NextComponent (E : ℕ → ℕ → Bool) (n from r : ℕ) : Type 0 where

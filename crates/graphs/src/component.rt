@@ -7,7 +7,7 @@ ghost use lib.ListN.{length, getD};
 ghost use Rattle.masks.specs.Sets.{bit, number};
 ghost use Rattle.graphs.specs.Graph.{edge};
 ghost use Rattle.graphs.specs.Components.{inside};
-ghost use Rattle.graphs.specs.Work.{Reaching, Around, NextComponent};
+ghost use Rattle.graphs.specs.Work.{Reaching, Around, Leads, NextComponent};
 use masks::Mask;
 use masks::Vertex;
 
@@ -18,12 +18,23 @@ pub fn next_component(reached: &[u64; 64], n: usize, from: usize) -> usize
 {
     let mut v = from;
     while v < n {
-        if component_around(reached, Vertex(v)).next_member(0) == v {
+        if leads(reached, Vertex(v)) {
             return v;
         }
         v += 1;
     }
     n
+}
+
+// Whether v is the lowest of a component. One that is on no loop is told by its own row.
+fn leads(reached: &[u64; 64], v: Vertex) -> bool
+    requires { ⌜ v .0 < 64 ⌝ }
+    ensures { λ r. ⌜ ((E : ℕ → ℕ → Bool) → Reaching E (now (reached .entry)) → Leads E (v .0) r) ⌝ }
+{
+    if !Mask::row(reached, v).has(v) {
+        return false;
+    }
+    component_around(reached, v).next_member(0) == v.0
 }
 
 // Those that v reaches and is reached by.

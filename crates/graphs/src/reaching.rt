@@ -46,6 +46,9 @@ fn take_in(reached: &mut [u64], n: usize, k: Vertex)
     ensures { λ _. ⌜ ((u : ℕ) → getD (now (reached .exit)) u 0 ≡ takenIn (k .0) (now (reached .entry)) u) ⌝ }
 {
     let taken = Mask::row(reached, k);
+    if taken.is_empty() {
+        return;
+    }
     let mut u = 0;
     while u < n {
         let row = Mask::row(reached, Vertex(u));

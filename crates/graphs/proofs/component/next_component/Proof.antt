@@ -1,13 +1,13 @@
 -- `next_component` meets its contract. The loop's invariant: none that was passed is the lowest of a component. Assumes nothing.
-use mathlib.Core.Path.{sym, _∙_}
+use mathlib.Core.Path.{subst}
 use mathlib.Core.Bool.{Bool}
 use mathlib.Core.List.{List}
 use Prim.Native.Nat.{ℕ, _-_, _≤_, _<_}
 use native.Mathlib.Omega.{arith}
 use borrow.Author.Needs.{needs}
 use Rattle.graphs.specs.Components.{Component, Lowest}
-use Rattle.graphs.specs.Work.{Reaching}
-use Rattle.graphs.proofs.InOrder.{leads-one, leads-none, past-more}
+use Rattle.graphs.specs.Work.{Reaching, Leads}
+use Rattle.graphs.proofs.InOrder.{past-more}
 use Rattle.graphs.proofs.component.next_component.Statement.{statement}
 use Rattle.graphs.proofs.component.next_component.Tie as tie
 
@@ -24,19 +24,13 @@ abbrev μ-loop : tie.MeasureT-loop
 loop-holds : tie.Need-loop-holds Inv-loop μ-loop
 loop-holds c = (search needs, λ E right u C k l. absurd (omega arith))
 
-component-around-requires : tie.Need-component-around-requires Inv-loop μ-loop
-component-around-requires c κs = search needs
-
-next-member-requires : tie.Need-next-member-requires Inv-loop μ-loop
-next-member-requires c κs = search needs
+leads-requires : tie.Need-leads-requires Inv-loop μ-loop
+leads-requires c κs = search needs
 
 returns : tie.Need-returns Inv-loop μ-loop
 returns c E right =
-    let b = c .before .before .before in
-    let i = b .before .loop .inv in
-    let led = leads-one _ (omega (arith, b .before .before .pre)) (c .before .before .component-around .ensures E right)
-    (sym (c .before .next-member .ensures) ∙ c .if1 .taken) in
-    record { bounded = search needs; found = λ l. (i .0, (_, led .0, led .1)); passed = i .1 E right }
+    let i = c .before .before .before .loop .inv in
+    record { bounded = search needs; found = λ l. (i .0, subst (Leads E _) (c .if1 .taken) (c .before .leads .ensures E right)); passed = i .1 E right }
 
 add-v : tie.Need-add-v Inv-loop μ-loop
 add-v c = search needs
@@ -46,13 +40,8 @@ loop-less c = search needs
 
 loop-again : tie.Need-loop-again Inv-loop μ-loop
 loop-again c =
-    let b = c .before .before .before in
-    let i = b .before .loop .inv in (
-      search needs,
-      λ E right. past-more (i .1 E right)
-          (leads-none _ (omega (arith, b .before .before .pre)) (c .before .before .component-around .ensures E right)
-          (λ e. c .if1 .left (c .before .next-member .ensures ∙ e))),
-    )
+    let i = c .before .before .before .loop .inv in
+    (search needs, λ E right. past-more (i .1 E right) (subst (Leads E _) (c .if1 .left) (c .before .leads .ensures E right)))
 
 returns-2 : tie.Need-returns-2 Inv-loop μ-loop
 returns-2 c E right =
@@ -69,8 +58,7 @@ next-component-spec =
     Inv-loop
     μ-loop
     loop-holds
-    component-around-requires
-    next-member-requires
+    leads-requires
     returns
     add-v
     loop-less
