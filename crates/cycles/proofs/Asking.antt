@@ -9,7 +9,7 @@ use Prim.Native.Nat.{ℕ, zero, suc, _+_, _-_, _^_, _≤_, _<_, min, max}
 use native.Mathlib.Omega.{arith}
 use lib.Dec.{T, eqb, leb}
 use borrow.Author.Tests.{eq-eqb}
-use lib.ListN.{length, take, drop, replicate, length-replicate}
+use lib.ListN.{length, take, drop, replicate, length-replicate, length-take, length-drop, length-append}
 use lib.Seq.{length-take-le, drop-append-le}
 use Rattle.masks.specs.Sets.{bit, pick, minus, number}
 use Rattle.masks.proofs.Words.{wide-test}
@@ -78,6 +78,21 @@ module _ (rows : List ℕ) (C : ℕ) (ws : List ℕ) where
         omega (arith, used-within ws₂, built .0),
         v (built .1 .tree) (built .1 .stands) ∙ built .1 .is kept,
       )
+
+-- what fits a part of the room fits the room
+pub part-wider : (E : ℕ → ℕ → Bool) (n C kept room whole : ℕ) (part : Part) (k : ℕ) (x : Bool) → room ≤ whole → part ≡ Fits k x
+    → PartPromise E n C kept room part → PartPromise E n C kept whole (Fits k x)
+part-wider E n C kept room whole part k x l e p =
+    let q = subst (PartPromise E n C kept room) e p in
+    (q .0, omega (arith, q .1), q .2)
+
+-- a room whose first k words were lent is as long as before
+pub lent-length : (k : ℕ) (ws front : List ℕ) → length front ≡ length (take k ws) → length (front ++ drop k ws) ≡ length ws
+lent-length k ws front e = length-append front (drop k ws) ∙ omega (arith, e, length-take k ws, length-drop k ws)
+
+pub part-again : (E : ℕ → ℕ → Bool) (n C kept k : ℕ) (ws front : List ℕ) (part : Part) → length front ≡ length (take k ws)
+    → PartPromise E n C kept (length (front ++ drop k ws)) part → PartPromise E n C kept (length ws) part
+part-again E n C kept k ws front part e p = subst (λ m. PartPromise E n C kept m part) (lent-length k ws front e) p
 
 -- ---- those met, and one more
 

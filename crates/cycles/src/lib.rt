@@ -16,6 +16,7 @@ ghost use Rattle.cycles.specs.Work.{PartPromise};
 use graphs::Checked;
 use graphs::Refusal;
 pub use making::build;
+pub use making::first_words;
 use masks::Mask;
 use masks::Vertex;
 use nodes::Made;
@@ -120,8 +121,25 @@ fn ask_block(rows: &[u64], kept: Mask, nodes: &mut [u64], memo: &mut [u64]) -> A
     Asked::No(need)
 }
 
-// One component: "the node room is emptied before each".
+// One component, in a part of the rooms where that is enough.
 fn ask_part(rows: &[u64], members: Mask, kept: Mask, nodes: &mut [u64], memo: &mut [u64]) -> Part
+    requires { ⌜ Sound (now rows) × Component (edge (now rows)) (number members) × (length (now nodes) ≤ 65536) ⌝ }
+    ensures { λ r. ⌜ PartPromise (edge (now (rows .entry))) (length (now (rows .entry))) (number members) (number kept) (length (now (nodes .entry))) r ⌝ }
+{
+    let room = first_words(members, nodes.len());
+    if nodes.len() <= room {
+        return ask_in(rows, members, kept, nodes, memo);
+    }
+    let memory = first_words(members, memo.len());
+    let part = ask_in(rows, members, kept, &mut nodes[..room], &mut memo[..memory]);
+    if let Part::Fits(used, holds) = part {
+        return Part::Fits(used, holds);
+    }
+    ask_in(rows, members, kept, nodes, memo)
+}
+
+// One component in the emptied room: "the node room is emptied before each".
+fn ask_in(rows: &[u64], members: Mask, kept: Mask, nodes: &mut [u64], memo: &mut [u64]) -> Part
     requires { ⌜ Sound (now rows) × Component (edge (now rows)) (number members) × (length (now nodes) ≤ 65536) ⌝ }
     ensures { λ r. ⌜ PartPromise (edge (now (rows .entry))) (length (now (rows .entry))) (number members) (number kept) (length (now (nodes .entry))) r ⌝ }
 {

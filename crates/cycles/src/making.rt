@@ -1,7 +1,7 @@
 // The passes of a component in the node room.
 ghost use mathlib.Core.Path.{_≡_};
 ghost use mathlib.Core.List.{List};
-ghost use Prim.Native.Nat.{ℕ, _<_};
+ghost use Prim.Native.Nat.{ℕ, _≤_, _<_};
 ghost use lib.Dec.{T};
 ghost use lib.ListN.{length};
 ghost use Rattle.masks.specs.Sets.{bit, number};
@@ -18,6 +18,27 @@ use masks::Mask;
 use masks::Vertex;
 use nodes::Made;
 use nodes::Node;
+
+// How many of a room's words to work in at first. They are enough for nearly every component of so many flip-flops; and since a room is emptied and its words
+// are counted for each component, that takes time by the component then, and not by the room.
+pub fn first_words(members: Mask, room: usize) -> usize
+    ensures { λ r. ⌜ (r ≤ room) × ((2 ≤ room) → 2 ≤ r) ⌝ }
+{
+    let m = members.count();
+    if room <= 4096 {
+        return room;
+    }
+    if m <= 10 {
+        return 4096;
+    }
+    if room <= 16384 {
+        return room;
+    }
+    if m <= 16 {
+        return 16384;
+    }
+    room
+}
 
 // The cycle function of a component in an empty node room, of which exactly the need is then in use; or that the room is too small.
 pub fn build(rows: &[u64], members: Mask, nodes: &mut [u64], memo: &mut [u64]) -> Made

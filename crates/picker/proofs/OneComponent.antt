@@ -2,14 +2,14 @@
 -- meets every loop of the component, with the words in use as its need. Where the room was too small, so is it for the need. Assumes nothing.
 use mathlib.Core.Path.{_≡_, sym, ap, _∙_, subst}
 use mathlib.Core.Bool.{Bool}
-use mathlib.Core.List.{List}
+use mathlib.Core.List.{List, _++_}
 use mathlib.Core.Option.{some}
 use Prim.Native.Nat.{ℕ, _≤_, _<_}
 use native.Mathlib.Omega.{arith}
 use native.Mathlib.Decide.{decLt}
 use lib.Count.{ones}
 use lib.Dec.{T}
-use lib.ListN.{length, replicate}
+use lib.ListN.{length, take, drop, replicate, length-take}
 use Rattle.masks.specs.Sets.{bit, those, lowest, number}
 use Rattle.masks.specs.declared.Mask.{Mask}
 use Rattle.masks.proofs.Those.{those-in}
@@ -32,9 +32,12 @@ use Rattle.cycles.specs.Search.{backOf}
 use Rattle.cycles.specs.Passes.{cycle}
 use Rattle.cycles.specs.Work.{Buildable, BuiltAt, BuildPromise}
 use Rattle.cycles.proofs.Models.{cycleT, cycle-is, cycle-fine}
+use Rattle.cycles.proofs.Asking.{lent-length}
 use Rattle.cycles.proofs.Picks.{component-best-some}
+use Rattle.picker.specs.declared.components.Found.{Found}
+use Rattle.picker.specs.declared.components.Found.the-variants.{Set}
 use Rattle.picker.specs.Promise.{costOf}
-use Rattle.picker.specs.Work.{Ready, PartRight, PartTooLarge, Walkable, LightestPromise}
+use Rattle.picker.specs.Work.{Ready, PartRight, PartTooLarge, PartPromise, Walkable, LightestPromise}
 use Rattle.picker.proofs.Picks.{found, bestOf, best-lightest}
 use Rattle.picker.proofs.Extra.{zeroed-length}
 use Rattle.picker.proofs.Notes.{memo-none}
@@ -146,3 +149,37 @@ module _ {rows costs ws ms : List ℕ} {C : ℕ} (ready : Ready rows costs ws ms
           exceeds = omega (arith, d .1 .2, zeroed-length ws ws₁ e);
           lowest = first-lowest low (ready .sound .few) comp place q;
         }
+
+-- ---- a part of the rooms first
+
+module _ {rows costs ws ms : List ℕ} (ready : Ready rows costs ws ms) where
+  pub ready-part : (k j : ℕ) → (2 ≤ length ms → 2 ≤ j) → Ready rows costs (take k ws) (take j ms)
+  ready-part k j h =
+      record {
+        sound = ready .sound;
+        even = ready .even;
+        small = omega (arith, length-take k ws, ready .small);
+        pairs = omega (arith, length-take j ms, h (ready .pairs), ready .pairs);
+      }
+
+  pub ready-again : (k j : ℕ) (front memory : List ℕ) → length front ≡ length (take k ws) → length memory ≡ length (take j ms)
+      → Ready rows costs (front ++ drop k ws) (memory ++ drop j ms)
+  ready-again k j front memory e f =
+      record {
+        sound = ready .sound;
+        even = ready .even;
+        small = omega (arith, lent-length k ws front e, ready .small);
+        pairs = omega (arith, lent-length j ms memory f, ready .pairs);
+      }
+
+module _ (rows costs : List ℕ) (C k : ℕ) (ws : List ℕ) where
+  -- what fits a part of the room fits the room
+  pub part-wider : {part : Found} (S : Mask) (need : ℕ) → part ≡ Set S need → PartPromise rows costs C (length (take k ws)) part
+      → PartPromise rows costs C (length ws) (Set S need)
+  part-wider {part} S need e p =
+      let q : PartRight rows costs C (length (take k ws)) (number S) need = subst (PartPromise rows costs C (length (take k ws))) e p in
+      record { lightest = q .lightest; counts = q .counts; fits = omega (arith, q .fits, length-take k ws) }
+
+  pub part-again : (front : List ℕ) (part : Found) → length front ≡ length (take k ws) → PartPromise rows costs C (length (front ++ drop k ws)) part
+      → PartPromise rows costs C (length ws) part
+  part-again front part e p = subst (λ m. PartPromise rows costs C m part) (lent-length k ws front e) p

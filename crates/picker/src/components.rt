@@ -6,6 +6,7 @@ ghost use Rattle.graphs.specs.Components.{Component};
 ghost use Rattle.picker.specs.Work.{Ready, PartPromise, GraphPromise};
 use super::best::lightest;
 use cycles::build;
+use cycles::first_words;
 use graphs::component_around;
 use graphs::next_component;
 use graphs::reach_rows;
@@ -49,7 +50,7 @@ pub fn graph_set(rows: &[u64], costs: &[u32], nodes: &mut [u64], memo: &mut [u64
     Found::Set(set, need)
 }
 
-// One component in the emptied room, with its need.
+// One component, in a part of the rooms where that is enough.
 fn component_set(
     rows: &[u64],
     costs: &[u32],
@@ -57,6 +58,29 @@ fn component_set(
     nodes: &mut [u64],
     memo: &mut [u64],
 ) -> Found
+    requires { ⌜ Ready (now rows) (now costs) (now nodes) (now memo) × Component (edge (now rows)) (number members) ⌝ }
+    ensures { λ r. ⌜ PartPromise (now (rows .entry)) (now (costs .entry)) (number members) (length (now (nodes .entry))) r ⌝ }
+{
+    let room = first_words(members, nodes.len());
+    if nodes.len() <= room {
+        return set_in(rows, costs, members, nodes, memo);
+    }
+    let memory = first_words(members, memo.len());
+    let part = set_in(
+        rows,
+        costs,
+        members,
+        &mut nodes[..room],
+        &mut memo[..memory],
+    );
+    if let Found::Set(lightest, used) = part {
+        return Found::Set(lightest, used);
+    }
+    set_in(rows, costs, members, nodes, memo)
+}
+
+// One component in the emptied room, with its need.
+fn set_in(rows: &[u64], costs: &[u32], members: Mask, nodes: &mut [u64], memo: &mut [u64]) -> Found
     requires { ⌜ Ready (now rows) (now costs) (now nodes) (now memo) × Component (edge (now rows)) (number members) ⌝ }
     ensures { λ r. ⌜ PartPromise (now (rows .entry)) (now (costs .entry)) (number members) (length (now (nodes .entry))) r ⌝ }
 {

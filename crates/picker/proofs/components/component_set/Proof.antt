@@ -1,31 +1,17 @@
--- `component_set` meets its contract. Assumes nothing.
-use mathlib.Core.Path.{_∙_}
-use Rattle.picker.proofs.OneComponent.{buildable, walkable, part-right, part-too-large}
+-- `component_set` meets its contract: what fits a part of the room fits the room. Assumes nothing.
+use mathlib.Core.Path.{sym}
+use lib.Seq.{length-take-le}
+use Rattle.masks.specs.Sets.{number}
+use Rattle.picker.proofs.OneComponent.{ready-part, ready-again, part-wider, part-again}
 use borrow.Author.Needs.{needs}
 use Rattle.picker.proofs.components.component_set.Statement.{statement}
 use Rattle.picker.proofs.components.component_set.Tie as tie
 
-clear-requires : tie.Need-clear-requires
-clear-requires c κs = search needs
+first-words-requires : tie.Need-first-words-requires
+first-words-requires c κs = search needs
 
-clear-requires-2 : tie.Need-clear-requires-2
-clear-requires-2 c κs = search needs
-
-build-requires : tie.Need-build-requires
-build-requires c κs =
-    let e = c .before .before .before .before in
-    let d = e .before .before .before .before in
-    let s = d .before .before .before .before .before .before in
-    buildable (s .pre .0) (s .pre .1) _ _ (d .clear .ensures) (e .clear2 .ensures)
-
-enum-known-made : tie.Need-enum-known-made
-enum-known-made c = search needs
-
-enum-told : tie.Need-enum-told
-enum-told c = search needs
-
-next-member-requires : tie.Need-next-member-requires
-next-member-requires c κs = search needs
+set-in-requires : tie.Need-set-in-requires
+set-in-requires c κs = search needs
 
 same-length : tie.Need-same-length
 same-length c = search needs
@@ -34,28 +20,30 @@ same-length-2 : tie.Need-same-length-2
 same-length-2 c = search needs
 
 returns : tie.Need-returns
-returns c =
-    let b = c .before .before .before .before .before .before .before in
-    let d = b .before .before .before .before .before .before .before .before .before in
-    let s = d .before .before .before .before .before .before in
-    part-too-large (s .pre .0) (s .pre .1) _ _ (d .clear .ensures) (b .build .ensures) _ (c .before .enum-told .given .1) (c .next-member .ensures)
+returns c = search needs
 
-clear-requires-3 : tie.Need-clear-requires-3
-clear-requires-3 c κs = search needs
+first-words-requires-2 : tie.Need-first-words-requires-2
+first-words-requires-2 c κs = search needs
 
-lightest-requires : tie.Need-lightest-requires
-lightest-requires c κs =
-    let f = c .before .before .before .before in
-    let a = f .before .before .before in
-    let b = a .before .before .before .before .before .before in
-    let e = b .before .before .before .before .before in
-    let d = e .before .before .before .before in
-    let s = d .before .before .before .before .before .before in
-    walkable (s .pre .0) (s .pre .1) _ _ (d .clear .ensures) (b .build .ensures) _ (a .made .given .1) (b .build .last .1 .1 .1 .0) _
-    (b .build .kept .1 .1 .1 .0 ∙ e .clear2 .kept .0) (f .clear3 .ensures)
+slice-relend-prefix-set-in : tie.Need-slice-relend-prefix-set-in
+slice-relend-prefix-set-in c = search needs
 
-used-requires : tie.Need-used-requires
-used-requires c κs = search needs
+slice-aggregate-set-in : tie.Need-slice-aggregate-set-in
+slice-aggregate-set-in c = sym (length-take-le _ _ (c .before .before .before .first-words .ensures .0))
+
+slice-relend-prefix-set-in-2 : tie.Need-slice-relend-prefix-set-in-2
+slice-relend-prefix-set-in-2 c = search needs
+
+slice-aggregate-set-in-2 : tie.Need-slice-aggregate-set-in-2
+slice-aggregate-set-in-2 c = sym (length-take-le _ _ (c .before .before .first-words2 .ensures .0))
+
+set-in-requires-2 : tie.Need-set-in-requires-2
+set-in-requires-2 c κs =
+    let start = c .before .before .before .before .before .before .before .before .before in
+    (ready-part (start .pre .0) (c .before .before .before .before .first-words .result) (c .before .before .first-words2 .result) (c .before .before .first-words2 .ensures .1), start .pre .1)
+
+enum-known-part : tie.Need-enum-known-part
+enum-known-part c = search needs
 
 same-length-3 : tie.Need-same-length-3
 same-length-3 c = search needs
@@ -65,29 +53,56 @@ same-length-4 c = search needs
 
 returns-2 : tie.Need-returns-2
 returns-2 c =
-    let g = c .before .before .before .before in
-    let a = g .before .before .before .before .before .before .before .before in
-    let b = a .before .before .before .before .before .before in
-    let d = b .before .before .before .before .before .before .before .before .before in
-    let s = d .before .before .before .before .before .before in
-    part-right (s .pre .0) (s .pre .1) _ _ (d .clear .ensures) (b .build .ensures) _ (a .made .given .1) _ _ (g .lightest .ensures) (c .used .ensures)
+    let a = c .before .before .before .before .before .before .before .before .before .before .before .before .before .before .before .before .before .args in
+    part-wider (a .rows .now) (a .costs .now) (number (a .members)) (c .before .before .before .before .before .before .before .before .before .before .before .before .first-words .result) (a .nodes .now) _ _ (c .before .part .given .1)
+    (c .before .before .before .before .before .before .before .set-in2 .ensures)
+
+enum-told : tie.Need-enum-told
+enum-told c = search needs
+
+set-in-requires-3 : tie.Need-set-in-requires-3
+set-in-requires-3 c κs =
+    let start = c .before .before .before .before .before .before .before .before .before .before .before .before .before .before .before .before .before .before in
+    let first = c .before .before .before .before .before .before .before .before .set-in2 in (
+      ready-again (start .pre .0) (c .before .before .before .before .before .before .before .before .before .before .before .before .before .first-words .result) (c .before .before .before .before .before .before .before .before .before .before .before .first-words2 .result) (first .last .1 .1 .1 .0) (first .last .1 .1 .1 .1 .0)
+          (first .kept .1 .1 .1 .0) (first .kept .1 .1 .1 .1 .0),
+      start .pre .1,
+    )
+
+same-length-5 : tie.Need-same-length-5
+same-length-5 c = search needs
+
+same-length-6 : tie.Need-same-length-6
+same-length-6 c = search needs
+
+returns-3 : tie.Need-returns-3
+returns-3 c =
+    let a = c .before .before .before .before .before .before .before .before .before .before .before .before .before .before .before .before .before .before .before .before .before .before .before .args in
+    let first = c .before .before .before .before .before .before .before .before .before .before .before .before .before .set-in2 in
+    part-again (a .rows .now) (a .costs .now) (number (a .members)) (c .before .before .before .before .before .before .before .before .before .before .before .before .before .before .before .before .before .before .first-words .result) (a .nodes .now) (first .last .1 .1 .1 .0)
+    (c .before .before .before .before .set-in3 .result) (first .kept .1 .1 .1 .0) (c .before .before .before .before .set-in3 .ensures)
 
 pub component-set-spec : {M : Type 1} → statement M
 component-set-spec =
     tie.close
     (tie.spec
-    clear-requires
-    clear-requires-2
-    build-requires
-    enum-known-made
-    enum-told
-    next-member-requires
+    first-words-requires
+    set-in-requires
     same-length
     same-length-2
     returns
-    clear-requires-3
-    lightest-requires
-    used-requires
+    first-words-requires-2
+    slice-relend-prefix-set-in
+    slice-aggregate-set-in
+    slice-relend-prefix-set-in-2
+    slice-aggregate-set-in-2
+    set-in-requires-2
+    enum-known-part
     same-length-3
     same-length-4
-    returns-2)
+    returns-2
+    enum-told
+    set-in-requires-3
+    same-length-5
+    same-length-6
+    returns-3)
