@@ -7,7 +7,7 @@ use crate::exhaustive::{bit, edges_as_lent, holds_loop, lightest, mask, needs, r
 pub type Expected = Vec<Vec<u64>>;
 
 /// The components' needs, each with the component's lowest flip-flop.
-type Needs = Vec<(usize, u64)>;
+pub type Needs = Vec<(usize, u64)>;
 
 /// The orders in which refusals are looked for. Pick and ask look for 4 after these.
 const PICK: &[u64] = &[1, 2, 3];
@@ -109,7 +109,7 @@ fn unfit(needs: &Needs, rooms: &Rooms) -> Option<u64> {
 }
 
 /// "Answers of ask and pick report the largest need, 0 without components."
-pub fn largest(needs: &Needs) -> u64 {
+fn largest(needs: &Needs) -> u64 {
     needs.iter().map(|part| part.1).max().unwrap_or(0)
 }
 

@@ -188,7 +188,7 @@ struct Cells<T> {
     null: bool,
 }
 
-const GUARD: usize = 8;
+const GUARD: usize = 32;
 
 impl<T: Cell> Cells<T> {
     fn len(&self) -> usize {
