@@ -5,6 +5,7 @@ mod call;
 mod comparison;
 mod exhaustive;
 mod expected;
+mod fence;
 mod known;
 mod product;
 mod random;
@@ -76,12 +77,14 @@ fn main() -> ExitCode {
 /// All that is compared in a run. Random blocks come for a fixed number of rounds, or for as long as is asked for.
 fn all(comparison: &mut Comparison, time: Option<Duration>) -> Outcome {
     section("every small block", || comparison.every_small_block())?;
+    section("long node rooms", || comparison.long_rooms())?;
     section("damaged files", || [0, 1, 2, 4, 9, 63, 64].into_iter().try_for_each(|n| comparison.damaged_file(n)))?;
     section("random blocks, faults and files", || {
         let start = Instant::now();
         let mut rounds = 0;
         while time.map_or(rounds < ROUNDS, |time| start.elapsed() < time) {
             comparison.random_block()?;
+            comparison.random_file()?;
             if rounds % 4 == 0 {
                 comparison.faults()?;
                 comparison.larger_block()?;

@@ -1,6 +1,7 @@
 //! The picker as built for C: a call made with guarded buffers, and what it left in them.
 
-use crate::call::{Call, Operation};
+use crate::call::{Block, Call, Operation};
+use crate::fence::FencedRoom;
 use crate::random::Random;
 use std::ptr;
 
@@ -164,6 +165,28 @@ pub fn make(call: &Call) -> Vec<Lent> {
             vec![out.back("out"), file.back("file"), rows.back("rows"), costs.back("costs")]
         }
     }
+}
+
+/// Picks in a node room that is said to be longer than it is: its first 65,536 words are there, and what follows may not
+/// be touched. Returns the results.
+pub fn pick_before_fence(block: &Block, room: &mut FencedRoom, beyond: usize) -> Vec<u64> {
+    let nodes = room.words();
+    let (mut memo, mut out) = ([u64::MAX; 64], vec![u64::MAX; 5]);
+    // SAFETY: each pointer is to as many cells as the length beside it says, but for the node room, which is the trial.
+    unsafe {
+        scanpick_pick(
+            block.rows.as_ptr(),
+            block.rows.len(),
+            block.costs.as_ptr(),
+            block.costs.len(),
+            nodes.as_mut_ptr(),
+            nodes.len() + beyond,
+            memo.as_mut_ptr(),
+            memo.len(),
+            out.as_mut_ptr(),
+        );
+    }
+    out
 }
 
 /// What stands in one cell of a buffer.

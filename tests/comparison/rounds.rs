@@ -5,6 +5,7 @@ use crate::call::{Block, Call, Operation, Rooms};
 use crate::comparison::{mismatch, Comparison, Outcome};
 use crate::exhaustive::{components, edges_as_lent, holds_loop, lightest, reduce, MOST_MEMBERS, MOST_TRIED};
 use crate::expected::{cleared, layout, Needs};
+use crate::fence::FencedRoom;
 use crate::known;
 use crate::product::{self, Lent};
 
@@ -165,6 +166,7 @@ impl Comparison {
     pub fn larger_block(&mut self) -> Outcome {
         let n = self.random.within(MOST_MEMBERS + 1, MOST_TRIED);
         let block = random_block(&mut self.random, n, n);
+        self.tally.count_block("random ones of 11 to 16 flip-flops in any components, their need taken on trust");
         let (cost, mask) = lightest(&block.rows, &block.costs).expect("few flip-flops");
         let left = reduce(&block.rows, &block.costs, u64::MAX);
         let parts = components(&left.live, &left.edges);
@@ -188,10 +190,8 @@ impl Comparison {
         let call = |nodes| Call { operation: operation(Rooms { nodes, memo }), rubbish };
         let out = product::make(&call(65536)).remove(0).after;
         if out[0] == 4 {
-            self.tally.count_block("of up to 16 flip-flops in a component, and too large; nothing compared");
-            return Ok(());
+            return Ok(()); // nothing here knows whether it is that large
         }
-        self.tally.count_block("random ones of up to 16 flip-flops in a component, without the exact need");
         let need = *out.last().expect("the need");
         for nodes in [65536, need as usize] {
             self.compare_with(call(nodes), cleared(answer(need), &Rooms { nodes, memo }))?;
@@ -201,6 +201,25 @@ impl Comparison {
             let mut refused = vec![0; out.len()];
             (refused[0], refused[1]) = (4, parts[0][0] as u64);
             self.compare_with(call(nodes), cleared(refused, &Rooms { nodes, memo }))?;
+        }
+        Ok(())
+    }
+
+    /// Node rooms of more than 65,536 words, of which only those may be touched.
+    pub fn long_rooms(&mut self) -> Outcome {
+        let mut room = FencedRoom::new(65536);
+        for beyond in (0..200).map(|round| 1 + round % 5) {
+            let n = self.random.within(2, MOST_MEMBERS);
+            let block = random_block(&mut self.random, n, MOST_MEMBERS);
+            let rooms = Rooms { nodes: 65536 + beyond, memo: 64 };
+            let call = Call { operation: Operation::Pick { block: block.clone(), rooms }, rubbish: 0 };
+            room.words().fill(self.random.word());
+            let out = product::pick_before_fence(&block, &mut room, beyond);
+            let expected = self.reference.expected(&call).map(|expected| expected[0].clone());
+            if expected.as_ref() != Some(&out) || room.words().iter().any(|&word| word != 0) {
+                return mismatch(call, format!("before a fence: out is {out:?}, or the room is not zero"));
+            }
+            self.tally.count_block("random ones with a node room that ends at a fence");
         }
         Ok(())
     }
@@ -273,6 +292,19 @@ impl Comparison {
             self.operation(Operation::Read { file, costs, rows: n })?;
         }
         Ok(())
+    }
+
+    /// A file of any bytes, with a heading that is right more often than not.
+    pub fn random_file(&mut self) -> Outcome {
+        let random = &mut self.random;
+        let n = random.within(0, 66);
+        let length = if random.chance(80) { 6 + 12 * n } else { random.below(800) };
+        let mut file: Vec<u8> = (0..length).map(|_| random.word() as u8).collect();
+        for (place, byte) in [b'F', b'V', b'G', 1, 0, n as u8].into_iter().enumerate().take(length) {
+            file[place] = if random.chance(95) { byte } else { file[place] };
+        }
+        let (costs, rows) = (random.within(60, 66), random.within(60, 66));
+        self.operation(Operation::Read { file, costs, rows }).map(drop)
     }
 
     /// A file with each bit turned over, each length short of its own and some past it; and each length of its outputs.
