@@ -40,7 +40,7 @@ pub fn random_block(random: &mut Random, n: usize, part: usize) -> Block {
         rows = renumbered(&rows, &random.shuffled(n));
     }
     let costs = match random.below(4) {
-        0 => stubborn_costs(random, &rows),
+        0 if n <= 20 => stubborn_costs(random, &rows),
         _ => random_costs(random, n),
     };
     Block { rows, costs }

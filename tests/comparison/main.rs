@@ -23,7 +23,7 @@ tests/compare --call TEXT-OR-FILE      makes calls again, each line of the text 
 
 /// The gate's run.
 const SEED: u64 = 1;
-const ROUNDS: usize = 1000;
+const ROUNDS: usize = 2000;
 
 struct Arguments {
     seed: u64,

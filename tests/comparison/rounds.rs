@@ -30,8 +30,13 @@ impl Comparison {
         self.operation(Operation::Reduce { block: block.clone(), limit }).map(drop)
     }
 
+    /// The length of a memo room: a short one more often than not, since the long ones take time to fill.
     fn memo(&mut self) -> usize {
-        self.random.one_of(&MEMOS)
+        if self.random.chance(90) {
+            self.random.one_of(&MEMOS[..4])
+        } else {
+            self.random.one_of(&MEMOS)
+        }
     }
 
     /// A random set of the flip-flops, more often than not with most of them.
