@@ -75,8 +75,9 @@ pub fn two_way_ring(n: usize) -> Vec<u64> {
     (0..n).map(|v| (1 << ((v + 1) % n) | 1 << ((v + n - 1) % n)) & !(1 << v)).collect()
 }
 
-/// A chain of members of B in groups, each group after a flip-flop outside B that all of the group go back to (the first of a group goes back to the one
-/// before, and the last on to the next). The functions of B settle in the last pass only.
+/// A chain of members of B in groups, each group after a flip-flop outside B that all of the group go back to (the
+/// first of a group goes back to the one before, and the last on to the next). The functions of B settle in the last
+/// pass only.
 pub fn chain(n: usize, group: usize) -> Vec<u64> {
     let mut rows = vec![0; n];
     for v in 0..n {

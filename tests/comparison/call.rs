@@ -43,7 +43,8 @@ impl Call {
         }
     }
 
-    /// Reads a text such as `pick rows 2 4 9 2 costs 1 5 5 1 nodes 8 memo 64`: the operation, then each thing lent with its numbers.
+    /// Reads a text such as `pick rows 2 4 9 2 costs 1 5 5 1 nodes 8 memo 64`: the operation, then each thing lent with
+    /// its numbers.
     pub fn parse(text: &str) -> Result<Call, String> {
         let mut words = text.split_whitespace();
         let name = words.next().ok_or("a call begins with its operation")?;

@@ -1,4 +1,5 @@
-//! The comparison itself: a call of the picker beside what it must leave behind, and how many calls of each kind there were.
+//! The comparison itself: a call of the picker beside what it must leave behind, and how many calls of each kind there
+//! were.
 
 use crate::call::Call;
 use crate::expected::{Expected, Reference};

@@ -1,7 +1,8 @@
 //! The exhaustive program: document 01's rules carried out by trying everything, for blocks small enough for that.
 //!
-//! It shares no code with the picker and does nothing in the picker's way. Edges are a set of pairs, looked through from the start at every step; sets
-//! are found by trying all masks; functions are truth tables; the need is counted by fixing variables in every way and comparing what is left.
+//! It shares no code with the picker and does nothing in the picker's way. Edges are a set of pairs, looked through
+//! from the start at every step; sets are found by trying all masks; functions are truth tables; the need is counted by
+//! fixing variables in every way and comparing what is left.
 
 use std::collections::{BTreeMap, BTreeSet, HashSet};
 
@@ -46,7 +47,8 @@ fn among(flops: &Flops, edges: &Edges) -> Edges {
 
 // Loops and the lightest set
 
-/// Whether the kept ones hold a loop: whatever has no edge in from the others left can be on none and goes; a loop is held if something stays.
+/// Whether the kept ones hold a loop: whatever has no edge in from the others left can be on none and goes; a loop is
+/// held if something stays.
 pub fn holds_loop(kept: u64, edges: &Edges) -> bool {
     let mut left = kept;
     loop {
@@ -130,7 +132,8 @@ impl Reduced {
         }
     }
 
-    /// "In each step the lowest-numbered rule that applies to any live flip-flop is used, on the lowest such flip-flop."
+    /// "In each step the lowest-numbered rule that applies to any live flip-flop is used, on the lowest such
+    /// flip-flop."
     fn next(&self, costs: &[u32]) -> Option<(u32, usize, Done)> {
         let tries = (1..=4).flat_map(|rule| self.live.iter().map(move |&v| (rule, v)));
         tries.filter_map(|(rule, v)| self.rule(rule, v, costs).map(|done| (rule, v, done))).next()
@@ -193,8 +196,9 @@ pub fn components(live: &Flops, edges: &Edges) -> Vec<Vec<usize>> {
 
 // The search
 
-/// Where the search is when it is at v, the flip-flops still being visited: the first path in the order of the targets that leads from the lowest
-/// flip-flop to v and is at none twice. (The search goes on to a target exactly when v can be reached from there past none of those being visited.)
+/// Where the search is when it is at v, the flip-flops still being visited: the first path in the order of the targets
+/// that leads from the lowest flip-flop to v and is at none twice. (The search goes on to a target exactly when v can
+/// be reached from there past none of those being visited.)
 fn being_visited(lowest: usize, v: usize, edges: &Edges) -> Vec<usize> {
     let mut path = vec![lowest];
     while *path.last().unwrap() != v {
@@ -216,7 +220,8 @@ pub fn feedback(part: &[usize], edges: &Edges) -> Flops {
 
 // The cycle function and the need
 
-/// A function of a component's kept variables, as its values in order: the values with the lowest variable 0 first, and so on in each half.
+/// A function of a component's kept variables, as its values in order: the values with the lowest variable 0 first, and
+/// so on in each half.
 type Table = Vec<bool>;
 
 fn joined(f: &Table, g: &Table, join: fn(bool, bool) -> bool) -> Table {
@@ -292,8 +297,8 @@ fn listed_functions(part: &[usize], edges: &Edges) -> HashSet<Table> {
     listing.listed
 }
 
-/// The need of a component: "the number of different non-constant functions got from the listed ones by fixing the first j variables, j from 0 on, in every
-/// way."
+/// The need of a component: "the number of different non-constant functions got from the listed ones by fixing the
+/// first j variables, j from 0 on, in every way."
 pub fn need(part: &[usize], edges: &Edges) -> u64 {
     assert!(part.len() <= MOST_MEMBERS, "too many members for truth tables");
     let listed = listed_functions(part, edges);
@@ -307,8 +312,8 @@ pub fn need(part: &[usize], edges: &Edges) -> u64 {
     different.len() as u64
 }
 
-/// A function without those first variables that it doesn't turn on: two of these are the same values exactly when they are the same function, and a
-/// constant is a single value.
+/// A function without those first variables that it doesn't turn on: two of these are the same values exactly when they
+/// are the same function, and a constant is a single value.
 fn without_idle_tops(mut f: &[bool]) -> &[bool] {
     while f.len() > 1 && f[..f.len() / 2] == f[f.len() / 2..] {
         f = &f[..f.len() / 2];
@@ -316,7 +321,8 @@ fn without_idle_tops(mut f: &[bool]) -> &[bool] {
     f
 }
 
-/// The components' needs, in their order, each with the component's lowest flip-flop. None if a component has too many members.
+/// The components' needs, in their order, each with the component's lowest flip-flop. None if a component has too many
+/// members.
 pub fn needs(live: &Flops, edges: &Edges) -> Option<Vec<(usize, u64)>> {
     let parts = components(live, edges);
     let small = parts.iter().all(|part| part.len() <= MOST_MEMBERS);

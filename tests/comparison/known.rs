@@ -38,13 +38,13 @@ pub fn calls() -> Vec<(Call, Vec<u64>)> {
     calls.push((pick(&ring, vec![u32::MAX; 64], 0, 64), vec![0, 0, 1, u32::MAX.into(), 0]));
     calls.push((pick(&ring, one_cheap, 0, 64), vec![0, 0, 1 << 37, 0, 0]));
     calls.push((pick(&[0; 65], vec![0; 65], 4096, 64), vec![1, 0, 0, 0, 0]));
-    // every two-flip-flop loop of 32 pairs has to be met at the largest costs: the largest total that a lightest set can have
+    // 32 loops of two flip-flops, each met at the largest cost: the total takes more than 32 bits
     let pairs: Vec<u64> = (0..64).map(|v: u32| 1 << (v ^ 1)).collect();
     let every_other = 0x5555_5555_5555_5555;
     calls.push((pick(&pairs, vec![u32::MAX; 64], 0, 0), vec![0, 0, every_other, 32 * u64::from(u32::MAX), 0]));
 
-    // chains in groups of four with k = 16 and k = 32: their functions settle in pass k. With a pass fewer the pick would
-    // cost one more, and the kept set without flip-flop 0 would be said to hold a loop
+    // chains in groups of four with k = 16 and k = 32: their functions settle in pass k. With a pass fewer the pick
+    // would cost one more, and all members of B kept (1014750, 1064043510750) would be said to hold a loop
     let (chain16, chain32) = (chain(20, 4), chain(40, 4));
     for memo in [0, 64, 4096, 65536] {
         calls.push((pick(&all_edges(17), vec![1; 17], 65536, memo), vec![0, 0, 65535, 16, 1768]));

@@ -1,4 +1,5 @@
-//! Compares the picker, as built for C, with an exhaustive program that shares nothing with it. `tests/compare` builds and runs it.
+//! Compares the picker, as built for C, with an exhaustive program that shares nothing with it. `tests/compare` builds
+//! and runs it.
 
 mod blocks;
 mod call;

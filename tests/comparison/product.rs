@@ -67,7 +67,8 @@ pub struct Lent {
     pub guarded: bool,
 }
 
-/// Makes the call. The buffers come back in the order of the interface, those written first: `out` and what follows the operation's inputs.
+/// Makes the call. The buffers come back in the order of the interface, those written first: `out` and what follows the
+/// operation's inputs.
 pub fn make(call: &Call) -> Vec<Lent> {
     let mut fill = Rubbish::new(call.rubbish);
     match &call.operation {
@@ -75,7 +76,8 @@ pub fn make(call: &Call) -> Vec<Lent> {
             let (rows, costs) = (fill.input(&block.rows), fill.input(&block.costs));
             let mut out = fill.cells(5);
             let (mut nodes, mut memo) = (fill.cells(rooms.nodes), fill.cells(rooms.memo));
-            // SAFETY: each pointer is to as many cells as the length beside it says (out: 5), which nothing else uses meanwhile.
+            // SAFETY: each pointer is to as many cells as the length beside it says (out: 5), which nothing else uses
+            // meanwhile.
             unsafe {
                 scanpick_pick(
                     rows.lend(),
@@ -167,8 +169,8 @@ pub fn make(call: &Call) -> Vec<Lent> {
     }
 }
 
-/// Picks in a node room that is said to be longer than it is: its first 65,536 words are there, and what follows may not
-/// be touched. Returns the results.
+/// Picks in a node room that is said to be longer than it is: its first 65,536 words are there, and what follows may
+/// not be touched. Returns the results.
 pub fn pick_before_fence(block: &Block, room: &mut FencedRoom, beyond: usize) -> Vec<u64> {
     let nodes = room.words();
     let (mut memo, mut out) = ([u64::MAX; 64], vec![u64::MAX; 5]);

@@ -46,8 +46,8 @@ impl Comparison {
 
     // Every small block
 
-    /// Every block of up to three flip-flops with costs from 0 to 2, and every one of four without self edges with costs
-    /// 0 and 1.
+    /// Every block of up to three flip-flops with costs from 0 to 2, and every one of four without self edges with
+    /// costs 0 and 1.
     pub fn every_small_block(&mut self) -> Outcome {
         for n in 0..=4 {
             let counts = |rows: &Vec<u64>| n < 4 || (0..n).all(|v| rows[v] >> v & 1 == 0);
