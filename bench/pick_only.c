@@ -3,7 +3,7 @@
 //   pick_only class NAME ROOM MEMO REPEATS
 //   pick_only block two-way-ring|all-edges|sparse N ROOM MEMO REPEATS
 //
-// It prints the largest need and, for one block, its nodes and joins are counted by bench/instructions.
+// It prints how many were answered, and the largest need.
 #include "suite.h"
 #include <scanpick.h>
 #include <stdio.h>

@@ -184,6 +184,10 @@ void plain_start(int nodes, int ratio) {
     bdd_setcacheratio(ratio); // else the caches stay as they are when the table grows
 }
 
+void plain_make_room(int nodes) {
+    if (bdd_getallocnum() - bdd_getnodenum() < nodes) bdd_gbc();
+}
+
 static set lightest(const graph *g, set members) {
     search s = {.g = g, .members = members};
     visit(&s, LOWEST(members));

@@ -11,4 +11,6 @@ typedef struct {
 void plain_start(int nodes, int ratio);
 // The lightest set that meets every loop.
 plain_answer plain_pick(const uint64_t *rows, const uint32_t *costs, int n);
+// Collects garbage now if fewer nodes are free than so many, so that it is not collected in the middle of a pick.
+void plain_make_room(int nodes);
 #endif

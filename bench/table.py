@@ -5,6 +5,7 @@ TIMES is what compare wrote, CLINGO what solve.py wrote; all in nanoseconds. The
 """
 import math
 import sys
+import textwrap
 
 BEGIN, END = "<!-- bench/run writes from here -->", "<!-- to here -->"
 
@@ -116,12 +117,15 @@ def document(blocks, notes):
     late = sum(b["process"] == "late" for b in blocks)
     refused = sum(b["65536"] == "refused" for b in blocks)
     kinds = len(set(b["costs"] for b in blocks))
-    return [
+    said = (
         f"`bench/run` made these tables: {len(blocks)} seeded blocks, {len(set(b['class'] for b in blocks))} classes with {kinds} kinds of costs (equal, small,"
         f" large), in one run. Times are in microseconds: for pick and BuDDy the least of {rounds} rounds in one process, in each of which each contender has"
         " all blocks in turn; for clingo, which is a process a block, processor time, the least of 3. \"Mean\" is the geometric"
         " mean, a ratio the geometric mean of the blocks' ratios, with the least and the most of them beside it. All contenders found the same cost and"
-        " the same set on every block that they answered.",
+        " the same set on every block that they answered."
+    )
+    return [
+        *textwrap.wrap(said, 158),
         "",
         f"Both rooms of 4,096 words. (Zeroing two such rooms alone: {short(small)}.)",
         "",
