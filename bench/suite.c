@@ -25,8 +25,8 @@ static block begin(const char *family, int n, int kind, uint64_t seed) {
     return b;
 }
 
-// Each flip-flop has two or three edges to random ones at most six places away, as wires are short. (With far ones too, most blocks above 40 need more
-// than 65,536 nodes, here and with any other method over this order of the variables.)
+// Each flip-flop has two or three edges to random ones at most six places away, as wires are short. (With edges to anywhere, most blocks above 40 need more
+// than 65,536 nodes and would be refused.)
 block sparse(int n, int kind, uint64_t seed) {
     block b = begin("sparse", n, kind, seed);
     for (int u = 0; u < n; u++)
