@@ -16,7 +16,7 @@ use Rattle.masks.proofs.Counts.{one-member}
 use Rattle.masks.proofs.Nexts.{onward}
 use Rattle.masks.specs.declared.Mask.{Mask}
 use Rattle.masks.specs.declared.Vertex.{Vertex}
-use Rattle.reduction.specs.declared.Done.{Done}
+use Rattle.reduction.specs.declared.block.Change.{Change}
 use Rattle.reduction.specs.declared.Done.the-variants.{Folded}
 use Rattle.reduction.specs.declared.rules.Rule.{Rule}
 use Rattle.reduction.specs.declared.rules.Rule.the-variants.{Looped, Loose, OneIn, OneOut}
@@ -25,7 +25,7 @@ use Rattle.reduction.specs.declared.Turn.the-variants.{Made}
 use Rattle.reduction.specs.declared.rules.Choice.{Choice}
 use Rattle.reduction.specs.declared.rules.Choice.the-variants.{Use}
 use Rattle.reduction.specs.Rules.{State, outs, ins, beats, foldIn, foldOut, Move, wherever, next}
-use Rattle.reduction.specs.Work.{Beside, edges, oneCheaper, asks, applies, forcedBy, moveBy, Foldable, Usable, Chosen, Joined, Performed, Advanced}
+use Rattle.reduction.specs.Work.{Beside, edges, oneCheaper, asks, applies, moveBy, Foldable, Usable, Chosen, Joined, Performed, Advanced}
 use Rattle.reduction.proofs.Next.{beats-cheaper}
 use Rattle.reduction.proofs.Trials.{one-found}
 use Rattle.reduction.proofs.Sides.{ins-fit, ins-is, beside-flip}
@@ -108,32 +108,38 @@ module _ (these others : List ℕ) (b : Beside these others) (v m u : ℕ) (f : 
 
 -- ---- rules 3 and 4 by one law, the second with the sides exchanged
 
-module _ (lent ins′ : List ℕ) (b : Beside lent ins′) (v : ℕ) where
-  pub foldable-in : Usable OneIn lent v → Foldable (length lent) (getD ins′ v 0) v
-  foldable-in f = subst (λ m. Foldable (length lent) m v) (sym (ins-is lent ins′ b v)) f
+module _ (s : State) (ins′ : List ℕ) (b : Beside (s .rows) ins′) (v : ℕ) where
+  pub foldable-in : Usable OneIn (s .rows) v → Foldable (length (s .rows)) (getD ins′ v 0) v
+  foldable-in f = subst (λ m. Foldable (length (s .rows)) m v) (sym (ins-is (s .rows) ins′ b v)) f
 
-  pub foldable-out : Usable OneOut lent v → Foldable (length ins′) (getD lent v 0) v
-  foldable-out f = subst (λ n. Foldable n (getD lent v 0) v) (sym (b .even)) f
+  pub foldable-out : Usable OneOut (s .rows) v → Foldable (length ins′) (getD (s .rows) v 0) v
+  foldable-out f = subst (λ n. Foldable n (getD (s .rows) v 0) v) (sym (b .even)) f
 
-  module _ (u : Vertex) (outs″ ins″ : List ℕ) where
-    pub joined-in : Joined lent ins′ v (u .0) outs″ ins″ → Performed OneIn lent v (Folded u) outs″ ins″
+  module _ (live forced : Mask) (u : Vertex) (outs″ ins″ : List ℕ) (cuts : number live ≡ cut (s .live) v) (keeps : number forced ≡ s .forced) where
+    abbrev folded : Change
+    folded = record { live = live; forced = forced; done = Folded u }
+
+    pub joined-in : Joined (s .rows) ins′ v (u .0) outs″ ins″ → Performed OneIn s v folded outs″ ins″
     joined-in j =
-        let e = j .into ∙ ap (λ m. lowest (length lent) (bit m)) (ins-is lent ins′ b v) in
-        record { done = ap (λ x. Folded (record { 0 = x })) e; rows = j .gains ∙ ap (λ x. foldIn x v (edges lent) .rows) e; beside = j .beside }
-
-    pub joined-out : Joined ins′ lent v (u .0) ins″ outs″ → Performed OneOut lent v (Folded u) outs″ ins″
-    joined-out j =
-        let e = j .into ∙ ap (λ n. lowest n (bit (getD lent v 0))) (b .even) in
+        let e = j .into ∙ ap (λ m. lowest (length (s .rows)) (bit m)) (ins-is (s .rows) ins′ b v) in
         record {
+          live = cuts;
+          forced = keeps;
           done = ap (λ x. Folded (record { 0 = x })) e;
-          rows = j .leads ∙ ap (λ x. foldOut x v (edges lent) .rows) e;
-          beside = beside-flip ins″ outs″ (j .beside);
+          rows = j .gains ∙ ap (λ x. foldIn x v (edges (s .rows)) .rows) e;
+          beside = j .beside;
         }
 
--- a rule that is known by its name
-pub performed-by : (rule this : Rule) (lent : List ℕ) (v : ℕ) (told : Done) (outs″ ins″ : List ℕ) → rule ≡ this → Performed this lent v told outs″ ins″
-    → Performed rule lent v told outs″ ins″
-performed-by rule this lent v told outs″ ins″ e p = subst (λ r. Performed r lent v told outs″ ins″) (sym e) p
+    pub joined-out : Joined ins′ (s .rows) v (u .0) ins″ outs″ → Performed OneOut s v folded outs″ ins″
+    joined-out j =
+        let e = j .into ∙ ap (λ n. lowest n (bit (getD (s .rows) v 0))) (b .even) in
+        record {
+          live = cuts;
+          forced = keeps;
+          done = ap (λ x. Folded (record { 0 = x })) e;
+          rows = j .leads ∙ ap (λ x. foldOut x v (edges (s .rows)) .rows) e;
+          beside = beside-flip ins″ outs″ (j .beside);
+        }
 
 -- ---- the move is made, or there is none
 
@@ -141,10 +147,9 @@ module _ (c : ℕ → ℕ) (s : State) where
   pub chosen-as : (o k : Choice) → Chosen c s o → o ≡ k → Chosen c s k
   chosen-as o k h e = subst (Chosen c s) e h
 
-  pub made : (rule : Rule) (v : Vertex) (told : Done) (live forced : Mask) (outs″ ins″ : List ℕ) → Chosen c s (Use rule v)
-      → Performed rule (s .rows) (v .0) told outs″ ins″ → number live ≡ cut (s .live) (v .0) → number forced ≡ forcedBy rule (s .forced) (v .0)
-      → Advanced c s (Made live forced (record { vertex = v; done = told })) outs″ ins″
-  made rule v told live forced outs″ ins″ h p e f = record { moved = rw (e, f, p .rows, p .done) (h .2); beside = p .beside }
+  pub made : (rule : Rule) (v : Vertex) (change : Change) (outs″ ins″ : List ℕ) → Chosen c s (Use rule v) → Performed rule s (v .0) change outs″ ins″
+      → Advanced c s (Made (change .live) (change .forced) (record { vertex = v; done = change .done })) outs″ ins″
+  made rule v change outs″ ins″ h p = record { moved = rw (p .live, p .forced, p .rows, p .done) (h .2); beside = p .beside }
 
 pub advanced-as : (c : ℕ → ℕ) (s : State) (o k : Turn) (outs″ ins″ : List ℕ) → Advanced c s o outs″ ins″ → o ≡ k → Advanced c s k outs″ ins″
 advanced-as c s o k outs″ ins″ h e = subst (λ x. Advanced c s x outs″ ins″) e h

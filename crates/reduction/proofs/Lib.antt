@@ -15,3 +15,5 @@ pub mod Stores
 pub mod Choices
 pub mod Logs
 pub mod Answers
+pub mod Again
+pub mod Lending

@@ -9,12 +9,15 @@ use Prim.Native.Nat.{ℕ, _≤_, _<_}
 use lib.Count.{ones}
 use lib.Dec.{eqb}
 use lib.ListN.{length, getD}
+use denote.Ref.{now, at-last}
 use Rattle.masks.specs.Sets.{bit, put, cut, lowest, number}
 use Rattle.reduction.specs.declared.Done.{Done}
 use Rattle.reduction.specs.declared.Done.the-variants.{Forced, Dropped, Folded}
 use Rattle.reduction.specs.declared.Turn.{Turn}
 use Rattle.reduction.specs.declared.Turn.the-variants.{Made, Ended}
 use Rattle.reduction.specs.declared.Log.{Log}
+use Rattle.reduction.specs.declared.block.Block.{Block}
+use Rattle.reduction.specs.declared.block.Change.{Change}
 use Rattle.reduction.specs.declared.rules.Rule.{Rule}
 use Rattle.reduction.specs.declared.rules.Rule.the-variants.{Looped, Loose, OneIn, OneOut}
 use Rattle.reduction.specs.declared.rules.Choice.{Choice}
@@ -102,11 +105,32 @@ pub record Joined (outs ins : List ℕ) (v u : ℕ) (outs′ ins′ : List ℕ) 
   pub leads : ins′ ≡ foldOut u v (edges ins) .rows
   pub beside : Beside outs′ ins′
 
--- a rule was used on v
-pub record Performed (rule : Rule) (lent : List ℕ) (v : ℕ) (told : Done) (outs ins : List ℕ) : Type 0 where
-  pub done : told ≡ doneBy rule lent v
-  pub rows : outs ≡ rowsBy rule lent v
+-- what using a rule on v asks of the rows
+abbrev pub Lent : Rule → List ℕ → List ℕ → ℕ → Type 0
+Lent rule outs ins v = Beside outs ins × (v < length outs) × Usable rule outs v
+
+-- a rule was used on v, in the block s
+pub record Performed (rule : Rule) (s : State) (v : ℕ) (change : Change) (outs ins : List ℕ) : Type 0 where
+  pub live : number (change .live) ≡ cut (s .live) v
+  pub forced : number (change .forced) ≡ forcedBy rule (s .forced) v
+  pub done : change .done ≡ doneBy rule (s .rows) v
+  pub rows : outs ≡ rowsBy rule (s .rows) v
   pub beside : Beside outs ins
+
+-- the record after a change: the rows that it holds are the same ones, at their last values
+abbrev pub changed : Block → Change → List ℕ → List ℕ → Block
+changed b change outs ins = record { live = change .live; forced = change .forced; outs = at-last (b .outs) outs; ins = at-last (b .ins) ins }
+
+-- a rule was used on v, in the record b, which is b′ afterwards
+pub record Used (rule : Rule) (b : Block) (v : ℕ) (told : Done) (b′ : Block) : Type 0 where
+  pub change : Change
+  pub outs : List ℕ
+  pub ins : List ℕ
+  pub tells : told ≡ change .done
+  pub whole : b′ ≡ changed b change outs ins
+  pub outs-long : length outs ≡ length (now (b .outs))
+  pub ins-long : length ins ≡ length (now (b .ins))
+  pub performed : Performed rule (block (number (b .live)) (number (b .forced)) (now (b .outs))) v change outs ins
 
 -- the next move was made, or there is none and nothing changed
 abbrev pub Moved : (ℕ → ℕ) → State → Turn → List ℕ → Type 0

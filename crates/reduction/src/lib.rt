@@ -1,4 +1,5 @@
 // The reduction: its steps, and the operation.
+mod block;
 mod edges;
 mod rules;
 
@@ -11,17 +12,15 @@ ghost use lib.ListN.{length};
 ghost use Rattle.masks.specs.Sets.{pick, number};
 ghost use Rattle.reduction.specs.Rules.{run};
 ghost use Rattle.reduction.specs.Promise.{blank, outcome, Returned, ReducePromise};
-ghost use Rattle.reduction.specs.Work.{Beside, block, costOf, forcedBy, Usable, Performed, Advanced, Logged};
+ghost use Rattle.reduction.specs.Work.{Beside, block, costOf, Advanced, Logged};
+use block::perform;
 use edges::drop_selves;
-use edges::fold;
 use edges::in_rows;
-use edges::remove;
 use graphs::Checked;
 use graphs::Refusal;
 use masks::Mask;
 use masks::Vertex;
 use rules::Choice;
-use rules::Rule;
 use rules::choose;
 
 // What was done with a flip-flop.
@@ -167,40 +166,9 @@ fn advance(outs: &mut [u64], ins: &mut [u64], live: Mask, forced: Mask, costs: &
     let Choice::Use(rule, v) = choice else {
         return Turn::Ended;
     };
-    let done = perform(rule, v, outs, ins);
-    Turn::Made(
-        live.cut(v),
-        forced_by(rule, v, forced),
-        Step { vertex: v, done },
-    )
-}
-
-// The forced set after a rule was used on v.
-fn forced_by(rule: Rule, v: Vertex, forced: Mask) -> Mask
-    requires { ⌜ v .0 < 64 ⌝ }
-    ensures { λ r. ⌜ number r ≡ forcedBy rule (number forced) (v .0) ⌝ }
-{
-    if let Rule::Looped = rule {
-        return forced.put(v);
-    }
-    forced
-}
-
-// Uses a rule on v, and tells what was done with it.
-fn perform(rule: Rule, v: Vertex, outs: &mut [u64], ins: &mut [u64]) -> Done
-    requires { ⌜ Beside (now outs) (now ins) × (v .0 < length (now outs)) × Usable rule (now outs) (v .0) ⌝ }
-    ensures { λ r. ⌜ Performed rule (now (outs .entry)) (v .0) r (now (outs .exit)) (now (ins .exit)) ⌝ }
-{
-    match rule {
-        Rule::Looped => {
-            remove(outs, ins, v);
-            Done::Forced
-        }
-        Rule::Loose => {
-            remove(outs, ins, v);
-            Done::Dropped
-        }
-        Rule::OneIn => Done::Folded(fold(outs, ins, v)),
-        Rule::OneOut => Done::Folded(fold(ins, outs, v)),
-    }
+    let change = perform(rule, v, live, forced, outs, ins);
+    let still = change.live;
+    let more = change.forced;
+    let done = change.done;
+    Turn::Made(still, more, Step { vertex: v, done })
 }

@@ -1,7 +1,6 @@
 -- `advance` meets its contract: the move that is chosen is made. Assumes nothing.
 use mathlib.Core.Path.{refl}
-use Prim.Native.Nat.{ℕ, _<_}
-use native.Mathlib.Omega.{arith}
+use Prim.Native.Nat.{ℕ}
 use borrow.Author.Needs.{needs}
 use Rattle.masks.specs.Sets.{number}
 use Rattle.reduction.specs.declared.rules.Choice.the-variants.{Use, Nothing}
@@ -51,19 +50,10 @@ choice c =
     let s = start (c .before .before) in
     chosen-as (cost s) (lent s) _ _ (c .before .before .choose .ensures (number (s .args .forced))) (c .choice .given .1)
 
-within : (c : tie.After-choice) → c .choice .given .0 .1 .0 .0 < 64
-within c = omega (arith, choice c .0, start (c .before .before) .pre .0 .few)
-
 perform-requires : tie.Need-perform-requires
 perform-requires c κs =
     let h = choice (chose c) in
     (start (chose c .before .before) .pre .0, h .0, h .1)
-
-cut-requires : tie.Need-cut-requires
-cut-requires c κs = within (chose (c .before .before .before .before .before))
-
-forced-by-requires : tie.Need-forced-by-requires
-forced-by-requires c κs = within (chose (c .before .before .before .before .before .before))
 
 same-length-3 : tie.Need-same-length-3
 same-length-3 c = search needs
@@ -74,7 +64,7 @@ same-length-4 c = search needs
 returns-2 : tie.Need-returns-2
 returns-2 c =
     let call = c .before .before .before .before .before .before in
-    made _ _ _ _ _ _ _ _ _ (choice (chose (call .before))) (call .perform .ensures) (c .before .cut .ensures) (c .forced-by .ensures)
+    made _ _ _ _ _ _ _ (choice (chose (call .before))) (call .perform .ensures)
 
 pub advance-spec : {M : Type 1} → statement M
 advance-spec =
@@ -87,8 +77,6 @@ advance-spec =
     same-length-2
     returns
     perform-requires
-    cut-requires
-    forced-by-requires
     same-length-3
     same-length-4
     returns-2)
