@@ -17,3 +17,4 @@ pub mod Logs
 pub mod Answers
 pub mod Again
 pub mod Lending
+pub mod Loan

@@ -8,8 +8,7 @@ use crate::rules::Rule;
 use masks::Mask;
 use masks::Vertex;
 
-// Live flip-flops, the forced set, and the edges among live ones by either side. The rows stay where the caller has them, so that a record costs four words
-// and no copy of the rows.
+// Live flip-flops, the forced set, and the edges among live ones: the rows of either side, which stay where the caller has them, so that no record copies them.
 pub struct Block<'a, 'b> {
     pub live: Mask,
     pub forced: Mask,
@@ -24,7 +23,7 @@ pub struct Change {
     pub done: Done,
 }
 
-// ---- the rules, on masks and rows
+// ---- the rules, on masks and rows: what becomes of the sets is returned
 
 // Rule 1: v is forced and removed.
 pub fn forced(live: Mask, forced: Mask, outs: &mut [u64], ins: &mut [u64], v: Vertex) -> Change
@@ -78,8 +77,9 @@ pub fn folded_out(live: Mask, forced: Mask, outs: &mut [u64], ins: &mut [u64], v
     }
 }
 
-// ---- the record is lent to a rule, and tells what was done
+// ---- the rules, on the record: what a rule returned is stored in it
 
+// Rule 1.
 pub fn force<'s, 'a, 'b>(block: &'s mut Block<'a, 'b>, v: Vertex) -> Done
     requires { ⌜ Lent Rule.Looped (now (now block .outs)) (now (now block .ins)) (v .0) ⌝ }
     ensures { λ r. ⌜ Used Rule.Looped (now (block .entry)) (v .0) r (now (block .exit)) ⌝ }
@@ -96,6 +96,7 @@ pub fn force<'s, 'a, 'b>(block: &'s mut Block<'a, 'b>, v: Vertex) -> Done
     change.done
 }
 
+// Rule 2.
 pub fn drop<'s, 'a, 'b>(block: &'s mut Block<'a, 'b>, v: Vertex) -> Done
     requires { ⌜ Lent Rule.Loose (now (now block .outs)) (now (now block .ins)) (v .0) ⌝ }
     ensures { λ r. ⌜ Used Rule.Loose (now (block .entry)) (v .0) r (now (block .exit)) ⌝ }
@@ -112,6 +113,7 @@ pub fn drop<'s, 'a, 'b>(block: &'s mut Block<'a, 'b>, v: Vertex) -> Done
     change.done
 }
 
+// Rule 3.
 pub fn fold_in<'s, 'a, 'b>(block: &'s mut Block<'a, 'b>, v: Vertex) -> Done
     requires { ⌜ Lent Rule.OneIn (now (now block .outs)) (now (now block .ins)) (v .0) ⌝ }
     ensures { λ r. ⌜ Used Rule.OneIn (now (block .entry)) (v .0) r (now (block .exit)) ⌝ }
@@ -128,6 +130,7 @@ pub fn fold_in<'s, 'a, 'b>(block: &'s mut Block<'a, 'b>, v: Vertex) -> Done
     change.done
 }
 
+// Rule 4.
 pub fn fold_out<'s, 'a, 'b>(block: &'s mut Block<'a, 'b>, v: Vertex) -> Done
     requires { ⌜ Lent Rule.OneOut (now (now block .outs)) (now (now block .ins)) (v .0) ⌝ }
     ensures { λ r. ⌜ Used Rule.OneOut (now (block .entry)) (v .0) r (now (block .exit)) ⌝ }
@@ -144,7 +147,7 @@ pub fn fold_out<'s, 'a, 'b>(block: &'s mut Block<'a, 'b>, v: Vertex) -> Done
     change.done
 }
 
-// Uses a rule on v. Its parameters are plain: whoever calls it needs no record.
+// Uses a rule on v. Its parameters are plain, so that whoever calls it needs no record.
 pub fn perform(
     rule: Rule,
     v: Vertex,
