@@ -3,7 +3,6 @@
 use crate::call::{Block, Call, Operation};
 use crate::fence::FencedRoom;
 use crate::random::Random;
-use std::ptr;
 
 #[link(name = "scanpick_c", kind = "static")]
 extern "C" {
@@ -209,8 +208,6 @@ cell!(u8, u32, u64);
 struct Cells<T> {
     cells: Vec<T>,
     before: Vec<T>,
-    /// A buffer of length 0 may be lent as a null pointer.
-    null: bool,
 }
 
 const GUARD: usize = 32;
@@ -221,19 +218,11 @@ impl<T: Cell> Cells<T> {
     }
 
     fn lend(&self) -> *const T {
-        if self.null && self.len() == 0 {
-            ptr::null()
-        } else {
-            self.cells[GUARD..].as_ptr()
-        }
+        self.cells[GUARD..].as_ptr()
     }
 
     fn lend_mut(&mut self) -> *mut T {
-        if self.null && self.len() == 0 {
-            ptr::null_mut()
-        } else {
-            self.cells[GUARD..].as_mut_ptr()
-        }
+        self.cells[GUARD..].as_mut_ptr()
     }
 
     fn back(self, name: &'static str) -> Lent {
@@ -272,7 +261,7 @@ impl Rubbish {
 
     fn cells<T: Cell>(&mut self, len: usize) -> Cells<T> {
         let cells: Vec<T> = (0..len + 2 * GUARD).map(|_| T::of(self.word(len))).collect();
-        Cells { before: cells.clone(), cells, null: self.random.chance(50) }
+        Cells { before: cells.clone(), cells }
     }
 
     fn input<T: Cell>(&mut self, values: &[T]) -> Cells<T> {
