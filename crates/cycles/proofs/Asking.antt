@@ -9,7 +9,7 @@ use Prim.Native.Nat.{ℕ, zero, suc, _+_, _-_, _^_, _≤_, _<_, min, max}
 use native.Mathlib.Omega.{arith}
 use lib.Dec.{T, eqb, leb}
 use borrow.Author.Tests.{eq-eqb}
-use lib.ListN.{length, take, drop, replicate, length-replicate, length-take, length-drop, length-append}
+use lib.ListN.{length, take, drop, replicate, length-replicate, length-take, length-drop, length-append, drop-of-length-le}
 use lib.Seq.{length-take-le, drop-append-le}
 use Rattle.masks.specs.Sets.{bit, pick, minus, number}
 use Rattle.masks.proofs.Words.{wide-test}
@@ -41,6 +41,7 @@ use Rattle.cycles.specs.declared.Part.{Part}
 use Rattle.cycles.specs.declared.Part.the-variants.{Fits, Exceeds}
 use Rattle.cycles.specs.Work.{Buildable, BuiltAt, BuildPromise, PartPromise}
 use Rattle.cycles.proofs.Passes.{cycle-loop, loop-parts}
+use Rattle.cycles.proofs.Fits.{fit-more, excess-after}
 
 -- ---- one component
 
@@ -95,19 +96,6 @@ pub part-again : (E : ℕ → ℕ → Bool) (n C kept k : ℕ) (ws front : List 
 part-again E n C kept k ws front part e p = subst (λ m. PartPromise E n C kept m part) (lent-length k ws front e) p
 
 -- ---- those met, and one more
-
-module _ (E : ℕ → ℕ → Bool) (n room : ℕ) where
-  -- the largest need
-  fit-more : (Cs : List ℕ) (m C k : ℕ) → Fit E n room Cs m → Need (functions E n C) k → k ≤ room → Fit E n room (Cs ++ (C ∷ [])) (max m k)
-  fit-more [] m C k f d l = (k, 0, d, l, refl, ap (λ z. max z k) f ∙ omega arith)
-  fit-more (D ∷ Cs) m C k f d l =
-      (f .0, max (f .1) k, f .2, f .3, fit-more Cs (f .1) C k (f .4) d l, ap (λ z. max z k) (f .5) ∙ omega arith)
-
-  -- the first that does not fit
-  excess-at : (Cs : List ℕ) (m C k place : ℕ) (Es : List ℕ) → Fit E n room Cs m → Need (functions E n C) k → room < k → Lowest C place
-      → Excess E n room (Cs ++ (C ∷ Es)) place
-  excess-at [] m C k place Es f d l p = (k, d, inl (l, p))
-  excess-at (D ∷ Cs) m C k place Es f d l p = (f .0, f .2, inr (f .3, excess-at Cs (f .1) C k place Es (f .4) d l p))
 
 -- the larger of two, and whether one of two is true
 max-is : (m k r : ℕ) → ((m < k) × (r ≡ k)) ⊎ ((k ≤ m) × (r ≡ m)) → r ≡ max m k
@@ -167,7 +155,7 @@ module _ (rows : List ℕ) (kept room : ℕ) (sound : Sound rows) where
                 are = a .walking .met .all;
                 excess =
                     subst (λ Fs. Excess E n room (a .Cs ++ Fs) (r .place)) (sym (m .1))
-                    (excess-at E n room (a .Cs) need C (x .0) (r .place) (m .0) (a .fit) (x .1) (x .2) (subst (Lowest C) (sym w) (part .1)));
+                    (excess-after E n room (a .Cs) (C ∷ m .0) need (r .place) (a .fit) (x .0, x .1, inl (x .2, subst (Lowest C) (sym w) (part .1))));
               },
             )
 
@@ -221,12 +209,6 @@ module _ (rows : List ℕ) (kept room : ℕ) (sound : Sound rows) where
 
 -- ---- the part of the node room that counts: at most m words of it
 
-drop-past : (m : ℕ) (xs : List ℕ) → length xs ≤ m → drop m xs ≡ []
-drop-past zero [] l = refl
-drop-past zero (x ∷ xs) l = absurd (omega arith)
-drop-past (suc m) [] l = refl
-drop-past (suc m) (x ∷ xs) l = drop-past m xs (omega arith)
-
 pub front-long : (m : ℕ) (ws : List ℕ) → m < length ws → m ≡ length (take m ws)
 front-long m ws l = sym (length-take-le m ws (omega arith))
 
@@ -237,14 +219,14 @@ module _ (m : ℕ) (rows : List ℕ) (kept : ℕ) (ws : List ℕ) (r : Asked) wh
       let f : m ≡ length (take m ws) = front-long m ws l in
       let k : length (take m ws) ≡ min (length ws) m = omega arith in (
         subst (λ c. AskAnswer rows kept c r) k a,
-        drop-append-le m front (drop m ws) (omega arith) ∙ ap (λ xs. xs ++ drop m ws) (drop-past m front (omega arith)),
+        drop-append-le m front (drop m ws) (omega arith) ∙ ap (λ xs. xs ++ drop m ws) (drop-of-length-le front {i = m} (omega arith)),
       )
 
   pub ask-whole : (ws′ : List ℕ) → length ws ≤ m → length ws′ ≡ length ws → AskAnswer rows kept (length ws) r
       → AskAnswer rows kept (min (length ws) m) r × (drop m ws′ ≡ drop m ws)
   ask-whole ws′ l e a =
       let k : length ws ≡ min (length ws) m = omega arith in
-      (subst (λ c. AskAnswer rows kept c r) k a, drop-past m ws′ (omega arith) ∙ sym (drop-past m ws l))
+      (subst (λ c. AskAnswer rows kept c r) k a, drop-of-length-le ws′ {i = m} (omega arith) ∙ sym (drop-of-length-le ws l))
 
 -- ---- the whole answer
 

@@ -1,9 +1,9 @@
 -- Of a list of components and a capacity: either every component fits, with one largest need, or there is a first that does not, with one lowest flip-flop;
 -- never both. Shown by the need that the trees give, since a list of functions has one need. Assumes nothing.
-use mathlib.Core.Path.{_≡_, refl, sym, ap₂, _∙_, subst}
+use mathlib.Core.Path.{_≡_, refl, sym, ap, ap₂, _∙_, subst}
 use mathlib.Core.Logic.{_⊎_, inl, inr}
 use mathlib.Core.Bool.{Bool, true, false, not}
-use mathlib.Core.List.{List, [], _∷_}
+use mathlib.Core.List.{List, [], _∷_, _++_}
 use Prim.Native.Nat.{ℕ, _≤_, _<_, max}
 use native.Mathlib.Omega.{arith}
 use lib.Dec.{T, leb, leb→le, nleb→lt}
@@ -71,6 +71,17 @@ module _ (E : ℕ → ℕ → Bool) (n capacity : ℕ) where
         go : (r : Fitting) → Fits Cs r → ((m : ℕ) × Fit E n capacity Cs m) ⊎ ((place : ℕ) × Excess E n capacity Cs place)
         go (fits m) f = inl (m, f)
         go (exceeds p) f = inr (p, f)
+
+  -- ---- one component more at the end
+
+  pub fit-more : (Cs : List ℕ) (m C k : ℕ) → Fit E n capacity Cs m → Need (functions E n C) k → k ≤ capacity → Fit E n capacity (Cs ++ (C ∷ [])) (max m k)
+  fit-more [] m C k f d l = (k, 0, d, l, refl, ap (λ z. max z k) f ∙ omega arith)
+  fit-more (D ∷ Cs) m C k f d l =
+      (f .0, max (f .1) k, f .2, f .3, fit-more Cs (f .1) C k (f .4) d l, ap (λ z. max z k) (f .5) ∙ omega arith)
+
+  pub excess-after : (Cs Ds : List ℕ) (m place : ℕ) → Fit E n capacity Cs m → Excess E n capacity Ds place → Excess E n capacity (Cs ++ Ds) place
+  excess-after [] Ds m place f x = x
+  excess-after (C ∷ Cs) Ds m place f x = (f .0, f .2, inr (f .3, excess-after Cs Ds (f .1) place (f .4) x))
 
   -- ---- one answer, and one only
 

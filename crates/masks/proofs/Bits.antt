@@ -285,3 +285,15 @@ zero-member m v e t = subst T (ap (λ x. bit x v) e ∙ bit-zero v) t
 
 pub not-zero : (x : ℕ) → T (bit 0 x) → ⊥
 not-zero x h = subst T (bit-zero x) h
+
+-- ---- joining sets
+
+pub or-assoc : (a b c : ℕ) → bitOr (bitOr a b) c ≡ bitOr a (bitOr b c)
+or-assoc a b c = same-members (bitOr (bitOr a b) c) (bitOr a (bitOr b c)) (λ v. (subst T (bits v), subst T (sym (bits v))))
+  where
+    group : (x y z : Bool) → ((x || y) || z) ≡ (x || (y || z))
+    group true y z = refl
+    group false y z = refl
+
+    bits : (v : ℕ) → bit (bitOr (bitOr a b) c) v ≡ bit (bitOr a (bitOr b c)) v
+    bits v = rw (bit-or (bitOr a b) c v, bit-or a b v, bit-or a (bitOr b c) v, bit-or b c v) (group (bit a v) (bit b v) (bit c v))

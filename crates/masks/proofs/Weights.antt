@@ -2,13 +2,15 @@
 use mathlib.Core.Path.{_≡_, refl, sym, ap, _∙_, subst}
 use mathlib.Core.Logic.{_≢_, _↔_}
 use mathlib.Core.Bool.{Bool, true, false, _&&_, _||_}
-use Prim.Native.Nat.{ℕ, zero, suc, _+_, _^_, _≤_, _<_}
+use Prim.Native.Nat.{ℕ, zero, suc, _+_, _*_, _^_, _≤_, _<_}
 use native.Mathlib.Omega.{arith}
+use native.Mathlib.Numerals.{add-one}
 use native.Mathlib.Decide.{ℕ-discrete}
 use lib.Bits.{bitAnd, bitOr, or-disjoint, and-lt, and-le-l}
 use lib.Dec.{T}
 use lib.Pow.{pow-pos}
 use Rattle.masks.specs.Sets.{bit, pick, put, cut, weight}
+use Rattle.masks.proofs.Tests.{T-true, T-false}
 use Rattle.masks.proofs.Bits.{bit-ext, bit-or, bit-and, bit-zero, same-members}
 use Rattle.masks.proofs.Members.{put-same, put-other, put-cut, cut-same}
 
@@ -95,3 +97,34 @@ count-le (suc n) m = go (bit m n) (count-le n m)
     go : (x : Bool) → weight (λ v. 1) n m ≤ n → weight (λ v. 1) n m + pick x 1 0 ≤ suc n
     go true h = omega arith
     go false h = omega arith
+
+-- ---- the cost of the members below a position
+
+module _ (c : ℕ → ℕ) (S : ℕ) where
+  pub weight-member : (v : ℕ) → T (bit S v) → weight c (v + 1) S ≡ weight c v S + c v
+  unfolding weight
+  weight-member v t = rw (add-one v, T-true (bit S v) t)
+
+  -- over positions that hold no member
+  pub weight-skip : (a b : ℕ) → a ≤ b → ((u : ℕ) → a ≤ u → u < b → T (bit S u) → ⊥) → weight c b S ≡ weight c a S
+  unfolding weight
+  weight-skip a zero l h =
+      let e : 0 ≡ a = omega arith in
+      ap (λ x. weight c x S) e
+  weight-skip a (suc b) l h = go (ℕ-discrete a (suc b)) (λ k. weight-skip a b k (λ u i j. h u i (omega arith)))
+    where
+      go : Dec (a ≡ suc b) → (a ≤ b → weight c b S ≡ weight c a S) → weight c (suc b) S ≡ weight c a S
+      go (yes e) ih = ap (λ x. weight c x S) (sym e)
+      go (no k) ih =
+          let k′ : a ≢ suc b = k in
+          let z : bit S b ≡ false = T-false (bit S b) (h b (omega arith) (omega arith)) in
+          rw z (omega (arith, ih (omega arith)))
+
+  pub weight-most : (b : ℕ) → ((v : ℕ) → c v < b) → (n : ℕ) → weight c n S ≤ n * b
+  unfolding weight
+  weight-most b h zero = omega arith
+  weight-most b h (suc n) = go (bit S n) (weight-most b h n)
+    where
+      go : (x : Bool) → weight c n S ≤ n * b → weight c n S + pick x (c n) 0 ≤ suc n * b
+      go true l = omega (arith, h n)
+      go false l = omega arith

@@ -35,6 +35,9 @@ cleared-all ws ws′ s c l =
     ext-getD 0 ws′ (zeroed ws) (c .size ∙ sym (length-replicate (length ws) 0))
     (λ i k. c .zero-below i (omega arith) (omega (arith, c .size)) ∙ sym (getD-replicate (length ws) i 0 0 (omega (arith, c .size))))
 
+pub zeroed-length : (ws ws′ : List ℕ) → ws′ ≡ zeroed ws → length ws′ ≡ length ws
+zeroed-length ws ws′ e = ap length e ∙ length-replicate (length ws) 0
+
 -- ---- counted
 
 -- count of the words in use are among the first s

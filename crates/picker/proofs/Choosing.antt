@@ -11,13 +11,12 @@ use borrow.Author.Tests.{lt-ltb, le-ltb, le-leb, lt-leb, eq-eqb, ne-eqb}
 use lib.ListN.{length, getD}
 use Rattle.masks.specs.Sets.{bit, pick, put, number, weight}
 use Rattle.masks.specs.declared.Mask.{Mask}
-use Rattle.masks.proofs.Weights.{weight-new}
+use Rattle.masks.proofs.Weights.{weight-new, weight-most}
 use Rattle.trees.specs.Best.{asLight, held}
 use Rattle.picker.specs.Promise.{costOf}
 use Rattle.picker.specs.Work.{setOf, Priced, Lacking, LighterPromise}
 use Rattle.picker.specs.declared.best.Best.{Best}
 use Rattle.picker.specs.declared.best.Best.the-variants.{Set, Nothing}
-use Rattle.picker.proofs.Extra.{weight-most}
 
 -- ---- the test for as light
 

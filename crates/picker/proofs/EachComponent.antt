@@ -9,6 +9,7 @@ use native.Mathlib.Omega.{arith}
 use lib.Bits.{bitOr, or-zero-l, or-zero-r}
 use lib.Dec.{T}
 use lib.ListN.{length}
+use Rattle.masks.proofs.Bits.{or-assoc}
 use Rattle.masks.specs.Sets.{bit, number}
 use Rattle.masks.specs.declared.Mask.{Mask}
 use Rattle.masks.specs.declared.Vertex.{Vertex}
@@ -23,12 +24,12 @@ use Rattle.graphs.proofs.Components.{EdgesBelow, componentsOf, lightest-parts}
 use Rattle.graphs.proofs.InOrder.{Walking, walking-first, walking-part, walking-more, walking-all, met-more, sound-components, sound-below}
 use Rattle.trees.specs.Need.{Need}
 use Rattle.cycles.specs.Passes.{functions}
-use Rattle.cycles.specs.Needs.{Fit, Excess, TooLarge}
+use Rattle.cycles.specs.Needs.{Fit, TooLarge}
+use Rattle.cycles.proofs.Fits.{fit-more, excess-after}
 use Rattle.picker.specs.Promise.{costOf}
 use Rattle.picker.specs.Work.{PartRight, PartTooLarge, PartPromise, GraphRight, GraphPromise}
 use Rattle.picker.specs.declared.components.Found.{Found}
 use Rattle.picker.specs.declared.components.Found.the-variants as sets
-use Rattle.picker.proofs.Extra.{or-assoc}
 use Rattle.picker.proofs.Picks.{bestOf, best-lightest, has-edge}
 
 -- ---- sets together, one more at the end
@@ -36,19 +37,6 @@ use Rattle.picker.proofs.Picks.{bestOf, best-lightest, has-edge}
 joined-more : (Ss : List ℕ) (S : ℕ) → joined (Ss ++ (S ∷ [])) ≡ bitOr (joined Ss) S
 joined-more [] S = or-zero-r S ∙ sym (or-zero-l S)
 joined-more (R ∷ Ss) S = ap (bitOr R) (joined-more Ss S) ∙ sym (or-assoc R (joined Ss) S)
-
--- ---- needs
-
-module _ (E : ℕ → ℕ → Bool) (n capacity : ℕ) where
-  fit-more : (Cs : List ℕ) (C m k : ℕ) → Fit E n capacity Cs m → Need (functions E n C) k → k ≤ capacity → Fit E n capacity (Cs ++ (C ∷ [])) (max m k)
-  fit-more [] C m k f need l = (k, 0, need, l, refl, omega arith)
-  fit-more (D ∷ Cs) C m k f need l =
-      let e : m ≡ max (f .0) (f .1) = f .5 in
-      (f .0, max (f .1) k, f .2, f .3, fit-more Cs C (f .1) k (f .4) need l, omega arith)
-
-  excess-after : (Cs Ds : List ℕ) (m p : ℕ) → Fit E n capacity Cs m → Excess E n capacity Ds p → Excess E n capacity (Cs ++ Ds) p
-  excess-after [] Ds m p f x = x
-  excess-after (C ∷ Cs) Ds m p f x = (f .0, f .2, inr (f .3, excess-after Cs Ds (f .1) p (f .4) x))
 
 -- ---- the components of a graph, up to the next one, which v leads
 
@@ -106,7 +94,7 @@ module _ (rows costs : List ℕ) (capacity : ℕ) (sound : Sound rows) where
             coming = rest w x .0;
             walking = rest w x .2;
             set = e ∙ ap₂ bitOr (s .set) same ∙ sym (joined-more (map f (s .done)) (f C)) ∙ ap joined (sym (map-append f (s .done) (C ∷ [])));
-            fit = rw q (fit-more E (length rows) capacity (s .done) C need k (s .fit) (p .counts) (p .fits));
+            fit = rw q (fit-more E (length rows) capacity (s .done) need C k (s .fit) (p .counts) (p .fits));
           }
 
       -- does not fit

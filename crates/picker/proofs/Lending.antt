@@ -4,7 +4,7 @@ use mathlib.Core.Path.{_≡_, refl, sym, ap, ap₂, _∙_, subst}
 use mathlib.Core.List.{List, [], _∷_, _++_}
 use Prim.Native.Nat.{ℕ, zero, suc, _≤_, _<_, min}
 use native.Mathlib.Omega.{arith}
-use lib.ListN.{length, take, drop, replicate, length-take}
+use lib.ListN.{length, take, drop, replicate, length-take, drop-of-length-le}
 use lib.Seq.{drop-at}
 use Rattle.graphs.specs.Refusals.{first, checks, checkRefusal}
 use Rattle.graphs.specs.declared.Refusal.{Refusal}
@@ -15,12 +15,6 @@ use Rattle.picker.specs.Promise.{PickAnswer, PickCases, PickPromise}
 use Rattle.picker.specs.Work.{Passes, Picking}
 use Rattle.picker.specs.declared.Picked.{Picked}
 use Rattle.picker.specs.declared.Picked.the-variants as answers
-
-drop-all : (k : ℕ) (xs : List ℕ) → length xs ≤ k → drop k xs ≡ []
-drop-all zero [] l = refl
-drop-all zero (x ∷ xs) l = absurd (omega arith)
-drop-all (suc k) [] l = refl
-drop-all (suc k) (x ∷ xs) l = drop-all k xs (omega arith)
 
 -- ---- the part of the node room that counts
 
@@ -50,7 +44,7 @@ module _ (nodes : List ℕ) where
       let c : length nodes ≡ capacity nodes = omega arith in
       record {
         answer = subst (λ k. PickAnswer rows costs k r) c p;
-        past = drop-all 65536 after (omega arith) ∙ sym (drop-all 65536 nodes l);
+        past = drop-of-length-le after {i = 65536} (omega arith) ∙ sym (drop-of-length-le nodes l);
       }
 
 -- ---- at the end

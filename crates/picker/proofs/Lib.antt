@@ -6,7 +6,6 @@ pub mod Computing
 pub mod Blocks
 pub mod Useless
 pub mod Errors
-pub mod Extra
 pub mod Notes
 pub mod Choosing
 pub mod Summing

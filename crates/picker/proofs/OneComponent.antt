@@ -27,6 +27,7 @@ use Rattle.nodes.specs.Rooms.{used, zeroed}
 use Rattle.nodes.specs.declared.Made.{Made}
 use Rattle.nodes.specs.declared.Made.the-variants.{At, Full}
 use Rattle.nodes.specs.declared.Node.{Node}
+use Rattle.nodes.proofs.Clearing.{zeroed-length}
 use Rattle.nodes.proofs.Counting.{used-within}
 use Rattle.cycles.specs.Search.{backOf}
 use Rattle.cycles.specs.Passes.{cycle}
@@ -39,7 +40,6 @@ use Rattle.picker.specs.declared.components.Found.the-variants.{Set}
 use Rattle.picker.specs.Promise.{costOf}
 use Rattle.picker.specs.Work.{Ready, PartRight, PartTooLarge, PartPromise, Walkable, LightestPromise}
 use Rattle.picker.proofs.Picks.{found, bestOf, best-lightest}
-use Rattle.picker.proofs.Extra.{zeroed-length}
 use Rattle.picker.proofs.Notes.{memo-none}
 
 -- ---- a tree with the values of the cycle function has the best set of the component's

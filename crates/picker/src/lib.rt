@@ -30,7 +30,7 @@ pub fn pick(rows: &[u64], costs: &[u32], nodes: &mut [u64], memo: &mut [u64]) ->
     if let Checked::Refused(refusal) = checked {
         return Picked::Refused(refusal);
     }
-    let answer = pick_block(rows, costs, nodes, memo);
+    let answer = pick_room(rows, costs, nodes, memo);
     nodes::empty(nodes);
     nodes::clear(memo);
     answer
@@ -38,18 +38,18 @@ pub fn pick(rows: &[u64], costs: &[u32], nodes: &mut [u64], memo: &mut [u64]) ->
 
 // The answer for a block that passed the checks. What the rooms held matters not, and nor does what they hold afterwards; the node room past its first
 // 65,536 words is left alone.
-fn pick_block(rows: &[u64], costs: &[u32], nodes: &mut [u64], memo: &mut [u64]) -> Picked
+fn pick_room(rows: &[u64], costs: &[u32], nodes: &mut [u64], memo: &mut [u64]) -> Picked
     requires { ⌜ Passes (now rows) (now costs) ⌝ }
     ensures { λ r. ⌜ Picking (now (rows .entry)) (now (costs .entry)) (now (nodes .entry)) (now (nodes .exit)) r ⌝ }
 {
     if 65536 < nodes.len() {
-        return pick_room(rows, costs, &mut nodes[..65536], memo);
+        return pick_memo(rows, costs, &mut nodes[..65536], memo);
     }
-    pick_room(rows, costs, nodes, memo)
+    pick_memo(rows, costs, nodes, memo)
 }
 
 // In the part of the node room that counts. Where the lent memo room is short, a local one takes its place.
-fn pick_room(rows: &[u64], costs: &[u32], nodes: &mut [u64], memo: &mut [u64]) -> Picked
+fn pick_memo(rows: &[u64], costs: &[u32], nodes: &mut [u64], memo: &mut [u64]) -> Picked
     requires { ⌜ Passes (now rows) (now costs) × (length (now nodes) ≤ 65536) ⌝ }
     ensures { λ r. ⌜ PickAnswer (now (rows .entry)) (now (costs .entry)) (length (now (nodes .entry))) r ⌝ }
 {

@@ -19,8 +19,8 @@ returns c =
 enum-told : tie.Need-enum-told
 enum-told c = search needs
 
-pick-block-requires : tie.Need-pick-block-requires
-pick-block-requires c κs =
+pick-room-requires : tie.Need-pick-room-requires
+pick-room-requires c κs =
     let s = c .before .before .before .before .before .before .before .before .before in
     passes (s .args .rows .now) (s .args .costs .now) (c .before .before .before .before .check .ensures) (c .before .before .enum-told .given .1)
 
@@ -41,7 +41,7 @@ returns-2 c =
     let b = c .before .before .before .before .before .before .before .before .before .before .before .before in
     let e = b .before .before .before in
     let s = e .before .before .before .before .before .before .before in
-    let r = b .pick-block in
+    let r = b .pick-room in
     answered (s .args .rows .now) (s .args .costs .now) (e .before .before .check .ensures) (s .args .nodes .now) (s .args .memo .now) (r .result)
     (r .last .1 .1 .0) (r .last .1 .1 .1 .0) _ _ (e .enum-told .given .1) (r .ensures) (r .kept .1 .1 .0) (r .kept .1 .1 .1 .0)
     (c .before .before .before .before .before .before .empty .ensures) (c .before .before .clear .ensures)
@@ -54,7 +54,7 @@ pick-spec =
     enum-known-checked
     returns
     enum-told
-    pick-block-requires
+    pick-room-requires
     empty-requires
     clear-requires
     same-length
