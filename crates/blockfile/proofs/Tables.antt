@@ -1,19 +1,19 @@
 -- The reader's and the writer's tables: which line is the first that is given, from the tests of the code, and the promises that follow. Assumes nothing.
-use mathlib.Core.Path.{_≡_, refl, sym, ap, ap₂, _∙_, subst}
-use mathlib.Core.Bool.{Bool, true, false, not, _||_}
+use mathlib.Core.Path.{_≡_, refl, sym, ap, _∙_}
+use mathlib.Core.Bool.{Bool, true, false, _||_}
 use mathlib.Core.List.{List, [], _∷_, _++_}
-use mathlib.Core.Option.{Option, none, some}
+use mathlib.Core.Option.{none, some}
 use Prim.Native.Nat.{ℕ, _+_, _-_, _*_, _≤_, _<_}
 use native.Mathlib.Omega.{arith}
 use borrow.Author.Tests.{lt-ltb, le-ltb, eq-eqb, ne-eqb, ltb-false}
-use lib.Dec.{ltb, eqb}
-use lib.ListN.{length, getD, take, drop, replicate, length-drop}
+use lib.Dec.{ltb}
+use lib.ListN.{length, take, drop, replicate, length-drop}
 use lib.Seq.{take-at, take-all}
-use Rattle.graphs.specs.Refusals.{Line, first, tooMany, outside, checks}
+use Rattle.graphs.specs.Refusals.{first, tooMany, outside, checks}
 use Rattle.graphs.specs.declared.Refusal.{Refusal}
 use Rattle.graphs.proofs.Tables.{first-off, first-rest, first-before, first-none, first-some}
-use Rattle.blockfile.specs.Layout.{numbers, count, fileCosts, fileRows, layout}
-use Rattle.blockfile.specs.Promise.{foreign, otherVersion, headerLines, bodyLines, readLines, writeLines, otherLength, tooShort, ReadPromise, WritePromise}
+use Rattle.blockfile.specs.Layout.{numbers, count, fileCosts, fileRows}
+use Rattle.blockfile.specs.Promise.{foreign, otherVersion, headerLines, bodyLines, readLines, writeLines, tooShort, ReadPromise, WritePromise}
 use Rattle.blockfile.specs.declared.Reading.the-variants as reading
 use Rattle.blockfile.specs.declared.Writing.the-variants as writing
 use Rattle.blockfile.proofs.Numbers.{numbers-length}

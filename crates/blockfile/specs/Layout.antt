@@ -1,7 +1,7 @@
 -- The block file, byte for byte. Assumes nothing.
 use mathlib.Core.List.{List, [], _∷_, _++_}
 use Prim.Native.Nat.{ℕ, zero, suc, _+_, _*_, _/_, _%_}
-use lib.ListN.{length, getD, take, drop}
+use lib.ListN.{length, take, drop}
 
 -- "every number low byte first": the k bytes of x, and the number that bytes are
 unfoldable pub bytes : ℕ → ℕ → List ℕ

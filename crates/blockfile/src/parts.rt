@@ -1,7 +1,7 @@
 // The parts of a block file, each as its own slice.
 ghost use mathlib.Core.Path.{_≡_};
 ghost use mathlib.Core.List.{_++_};
-ghost use Prim.Native.Nat.{_+_, _-_, _*_, _≤_, _<_};
+ghost use Prim.Native.Nat.{_-_, _*_, _≤_, _<_};
 ghost use lib.ListN.{length, drop, replicate};
 ghost use Rattle.blockfile.specs.Layout.{heading, spelled, numbers};
 use super::bytes::number_at;

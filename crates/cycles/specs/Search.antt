@@ -1,5 +1,5 @@
 -- The depth-first search of a component, and its set B. Assumes nothing.
-use mathlib.Core.Bool.{Bool, true, false}
+use mathlib.Core.Bool.{Bool}
 use Prim.Native.Nat.{ℕ, zero, suc}
 use Rattle.masks.specs.Sets.{pick, bit, put, lowest}
 use Rattle.graphs.specs.Components.{inside}

@@ -4,11 +4,11 @@ use mathlib.Core.Path.{_≡_, refl, sym, _∙_}
 use mathlib.Core.Bool.{Bool, true, false, true≢false}
 use mathlib.Core.List.{List, [], _∷_, _++_}
 use mathlib.Core.Option.{Option, none, some}
-use Prim.Native.Nat.{ℕ, _≤_, _<_, _^_}
+use Prim.Native.Nat.{ℕ, _≤_}
 use native.Mathlib.Omega.{arith}
 use borrow.Author.Tests.{le-ltb, lt-leb, eq-eqb, ltb-false, leb-false, eqb-true, not-false}
 use lib.ListN.{length}
-use Rattle.masks.specs.Sets.{pick, lowest}
+use Rattle.masks.specs.Sets.{lowest}
 use Rattle.masks.proofs.Lowest.{lowest-none, lowest-under}
 use Rattle.graphs.specs.Refusals.{Line, first, tooMany, unequal, wide, outside, checks}
 use Rattle.graphs.specs.declared.Refusal.{Refusal}

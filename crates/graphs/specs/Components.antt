@@ -1,9 +1,8 @@
 -- The strongly connected parts of a graph that hold a loop. Assumes nothing.
-use mathlib.Core.Path.{_≡_}
-use mathlib.Core.Logic.{_⊎_, _↔_}
-use mathlib.Core.Bool.{Bool, true, false, _&&_}
+use mathlib.Core.Logic.{_↔_}
+use mathlib.Core.Bool.{Bool, true, _&&_}
 use mathlib.Core.List.{List, [], _∷_}
-use Prim.Native.Nat.{ℕ, _<_, _≤_, _^_}
+use Prim.Native.Nat.{ℕ, _<_, _≤_}
 use lib.Dec.{T}
 use Rattle.masks.specs.Sets.{bit}
 use Rattle.graphs.specs.Graph.{Of, Walk}

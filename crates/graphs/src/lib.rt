@@ -1,4 +1,4 @@
-// The checks that every operation makes first, and what a refusal is; who reaches whom, and the components.
+// The checks that every operation on rows makes, and what a refusal is; who reaches whom, and the components.
 mod component;
 mod reaching;
 

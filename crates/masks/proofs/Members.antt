@@ -6,7 +6,7 @@ use Prim.Native.Nat.{ℕ, _+_, _-_, _^_, _≤_, _<_}
 use native.Mathlib.Omega.{arith}
 use native.Mathlib.Decide.{ℕ-discrete}
 use lib.Dec.{T}
-use Rattle.masks.specs.Sets.{bit, pick, put, cut}
+use Rattle.masks.specs.Sets.{bit, put, cut}
 use Rattle.masks.proofs.Bits.{add-same, add-other, sub-same, bit-le, add-lt}
 
 -- the number with the bit v set: the same, or 2 ^ v more

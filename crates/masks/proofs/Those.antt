@@ -1,13 +1,12 @@
 -- The set of those below n that pass a test: its members. Assumes nothing.
 use mathlib.Core.Path.{_≡_, refl, sym, ap, _∙_, subst}
-use mathlib.Core.Logic.{_≢_, _⊎_, inl, inr, _↔_}
+use mathlib.Core.Logic.{_⊎_, inl, inr, _↔_}
 use mathlib.Core.Bool.{Bool, true, false, _&&_}
 use Prim.Native.Nat.{ℕ, zero, suc, _+_, _*_, _^_, _≤_, _<_}
 use native.Mathlib.Omega.{arith}
 use native.Mathlib.Nat.{pow-suc}
 use native.Mathlib.Decide.{ℕ-discrete, decLt}
 use lib.Dec.{T, leb, leb→le, le→leb}
-use lib.Pow.{pow-pos}
 use Rattle.masks.specs.Sets.{bit, pick, those, lowest}
 use Rattle.masks.proofs.Tests.{and-T, T-and}
 use Rattle.masks.proofs.Bits.{bit-high, bit-ext, bit-zero, add-same, add-other, number-lt, same-members, bit-lt}

@@ -3,7 +3,7 @@
 use mathlib.Core.Path.{_≡_, refl, sym, ap, _∙_}
 use mathlib.Core.Logic.{_≢_}
 use mathlib.Core.Bool.{Bool, true, false, not, _&&_, _||_}
-use Prim.Native.Nat.{ℕ, zero, suc, _+_, _-_, _*_, _/_, _%_, _^_, _≤_, _<_}
+use Prim.Native.Nat.{ℕ, _-_, _*_, _/_, _%_, _^_, _≤_, _<_}
 use native.Mathlib.Omega.{arith}
 use native.Mathlib.Nat.{one-mul, mod-lt, mod-eq-of-lt}
 use native.Mathlib.Decide.{ℕ-discrete, decLt}
@@ -12,7 +12,7 @@ use lib.Dec.{eqb, leb}
 use lib.Pow.{pow-lt, pow-pos}
 use lib.Bits.{bitAnd, bitOr, and-mask, and-le-l, and-lt, or-lt, or-disjoint}
 use Rattle.masks.specs.Sets.{bit, put, cut, minus}
-use Rattle.masks.proofs.Bits.{bit-ext, bit-high, bit-zero, bit-or, bit-and, comp-bit, add-same, add-other}
+use Rattle.masks.proofs.Bits.{bit-ext, bit-zero, bit-or, bit-and, comp-bit, add-same, add-other}
 use Rattle.masks.proofs.Members.{put-same, put-other, put-lt, cut-same, cut-other, cut-lt}
 
 -- 1 shifted by v, in a word of w bits

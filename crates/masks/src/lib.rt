@@ -3,7 +3,6 @@ mod store;
 mod walk;
 
 ghost use mathlib.Core.Path.{_≡_};
-ghost use mathlib.Core.Bool.{not};
 ghost use Prim.Native.Nat.{_-_, _≤_, _<_, _^_};
 ghost use lib.Dec.{eqb, ltb};
 ghost use lib.Bits.{bitAnd, bitOr};

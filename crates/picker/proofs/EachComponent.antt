@@ -1,11 +1,10 @@
 -- The components one after the other: those that were met fit, with the largest need so far, and the set so far is their best sets together. So at the end
 -- it is the lightest set of the whole graph; and a component that does not fit is the first such. Assumes nothing.
 use mathlib.Core.Path.{_≡_, refl, sym, ap, ap₂, _∙_, subst, subst₂}
-use mathlib.Core.Logic.{inl, inr}
+use mathlib.Core.Logic.{inl}
 use mathlib.Core.Bool.{Bool}
 use mathlib.Core.List.{List, [], _∷_, _++_, map}
 use Prim.Native.Nat.{ℕ, _+_, _≤_, _<_, max}
-use native.Mathlib.Omega.{arith}
 use lib.Bits.{bitOr, or-zero-l, or-zero-r}
 use lib.Dec.{T}
 use lib.ListN.{length}
@@ -22,8 +21,6 @@ use Rattle.graphs.proofs.Parts.{joined}
 use Rattle.graphs.proofs.Lightest.{lightest-unique}
 use Rattle.graphs.proofs.Components.{EdgesBelow, componentsOf, lightest-parts}
 use Rattle.graphs.proofs.InOrder.{Walking, walking-first, walking-part, walking-more, walking-all, met-more, sound-components, sound-below}
-use Rattle.trees.specs.Need.{Need}
-use Rattle.cycles.specs.Passes.{functions}
 use Rattle.cycles.specs.Needs.{Fit, TooLarge}
 use Rattle.cycles.proofs.Fits.{fit-more, excess-after}
 use Rattle.picker.specs.Promise.{costOf}

@@ -18,7 +18,7 @@ use Rattle.graphs.specs.Light.{Lightest}
 use Rattle.graphs.proofs.Loops.{RowsFit, edge-plain}
 use Rattle.graphs.proofs.Lightest.{Least, least-iff, least-of, swap}
 use Rattle.graphs.proofs.Walks.{flip}
-use Rattle.reduction.specs.Rules.{State, Move, start, remove, force, foldIn, foldOut, run, next}
+use Rattle.reduction.specs.Rules.{State, Move, start, force, run, next}
 use Rattle.masks.proofs.Tests.{T-false, false-T}
 use Rattle.graphs.proofs.Parts.{Within}
 use Rattle.reduction.proofs.Removal.{without, Without, Rest, same-least, rule1, rule2-in, rule2-out}

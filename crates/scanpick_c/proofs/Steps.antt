@@ -14,7 +14,7 @@ use Rattle.reduction.specs.declared.Step.{Step}
 use Rattle.reduction.specs.declared.Done.{Done}
 use Rattle.reduction.specs.declared.Done.the-variants.{Folded}
 use Rattle.reduction.specs.declared.Reduced.{Reduced}
-use Rattle.reduction.specs.Rules.{State, Move, start, next, run}
+use Rattle.reduction.specs.Rules.{State, Move, start, run}
 use Rattle.reduction.specs.Promise.{outcome, blank, ReducePromise}
 use Rattle.reduction.proofs.States.{Sane, start-sane, live-lt}
 use Rattle.reduction.proofs.Next.{Used, by1, by2-in, by2-out, by3, by4, next-used, next-sane}

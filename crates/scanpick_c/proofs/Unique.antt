@@ -2,7 +2,6 @@
 use mathlib.Core.Path.{_≡_, sym, ap, _∙_}
 use mathlib.Core.List.{List, map}
 use Prim.Native.Nat.{ℕ}
-use Rattle.reduction.specs.declared.Reduced.{Reduced}
 use Rattle.reduction.proofs.Unique.{reduce-unique}
 use Rattle.cycles.proofs.Asks.{ask-unique}
 use Rattle.picker.proofs.Unique.{pick-unique}

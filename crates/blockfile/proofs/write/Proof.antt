@@ -1,16 +1,15 @@
 -- `write` meets its contract: heading, costs and rows, each over its own part, make up the layout. Assumes nothing.
-use mathlib.Core.Path.{_≡_, sym, ap, ap₂, _∙_}
-use mathlib.Core.List.{List, [], _∷_, _++_}
+use mathlib.Core.Path.{_≡_, sym, ap, _∙_}
+use mathlib.Core.List.{[], _∷_}
 use mathlib.Core.Option.{none}
-use Prim.Native.Nat.{ℕ, _+_, _-_, _*_, _≤_}
+use Prim.Native.Nat.{_+_, _*_}
 use native.Mathlib.Omega.{arith}
 use borrow.Author.Needs.{needs}
 use lib.Dec.{ltb}
-use lib.ListN.{length, take, drop, length-take, length-drop, length-append}
+use lib.ListN.{length, length-take, length-drop, length-append}
 use lib.Seq.{length-take-le}
 use Rattle.graphs.specs.Refusals.{first, checks, checkRefusal}
 use Rattle.graphs.proofs.Tables.{first-some, Checks, checks-passed}
-use Rattle.blockfile.specs.Layout.{heading, spelled, layout}
 use Rattle.blockfile.specs.Promise.{tooShort}
 use Rattle.blockfile.proofs.Numbers.{heading-length}
 use Rattle.blockfile.proofs.Pieces.{put-layout}

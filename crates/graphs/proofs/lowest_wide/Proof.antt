@@ -1,13 +1,13 @@
 -- `lowest_wide` meets its contract. The loop's invariant: no row passed is wide. Assumes nothing.
 use mathlib.Core.Path.{_≡_, sym, ap, ap₂, _∙_}
-use mathlib.Core.Bool.{Bool, true, false, not}
+use mathlib.Core.Bool.{Bool, false, not}
 use Prim.Native.Nat.{ℕ, _-_, _^_, _≤_, _<_}
 use native.Mathlib.Omega.{arith}
 use borrow.Author.Count.{below-none, below-more}
 use borrow.Author.Needs.{needs}
 use lib.Dec.{eqb, leb}
-use lib.ListN.{length, getD}
-use Rattle.masks.specs.Sets.{minus, number}
+use lib.ListN.{length}
+use Rattle.masks.specs.Sets.{minus}
 use Rattle.masks.proofs.Words.{wide-test}
 use Rattle.graphs.specs.Refusals.{wide}
 use Rattle.masks.proofs.Lowest.{lowest-is, lowest-none}

@@ -4,7 +4,7 @@ use mathlib.Core.List.{List, [], _∷_}
 use Prim.Native.Nat.{ℕ, _≤_, _%_}
 use native.Mathlib.Omega.{arith}
 use borrow.Author.Needs.{needs}
-use lib.ListN.{length, length-set, drop, drop-of-length-le}
+use lib.ListN.{length, length-set, drop-of-length-le}
 use lib.Seq.{sets, sets-eq}
 use Rattle.blockfile.specs.Layout.{bytes, heading}
 use Rattle.blockfile.proofs.parts.write_heading.Statement.{statement}

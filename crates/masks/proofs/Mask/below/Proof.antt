@@ -1,7 +1,7 @@
 -- `Mask::below` meets its contract: for 64 it is the full word, below that a shifted one less one. Assumes nothing.
 use borrow.Author.Needs.{needs}
 use Prim.Native.Nat.{ℕ, _-_, _^_}
-use mathlib.Core.Path.{_≡_, ap, sym, _∙_, subst}
+use mathlib.Core.Path.{ap, sym}
 use native.Mathlib.Omega.{arith}
 use lib.Pow.{pow-pos}
 use Rattle.masks.specs.Sets.{number}

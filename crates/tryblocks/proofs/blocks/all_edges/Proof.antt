@@ -1,6 +1,6 @@
 -- `all_edges` is safe and ends. Assumes nothing.
 use mathlib.Core.Path.{_≡_}
-use Prim.Native.Nat.{_-_, _≤_, _<_}
+use Prim.Native.Nat.{_-_, _≤_}
 use lib.ListN.{length}
 use borrow.Author.Needs.{needs}
 use Rattle.tryblocks.proofs.blocks.all_edges.Statement.{statement}
