@@ -205,3 +205,9 @@ pub ask-is : (rows : List ℕ) (kept : ℕ) (nodes memo : List ℕ) (a : Asked) 
 ask-is rows kept nodes memo a nodes′ memo′ p =
     ask-unique rows kept nodes memo a (askModel rows kept (capacity nodes)) nodes′ (nodesModel rows kept nodes) memo′ (memoModel rows kept memo) p
     (ask-meets rows kept nodes memo)
+
+-- "what they held on entry changes no answer", nor does the memo room: with rooms of one capacity the answers are equal
+pub ask-same : (rows : List ℕ) (kept : ℕ) (nodes₁ memo₁ nodes₂ memo₂ : List ℕ) (a b : Asked) (nodes₁′ memo₁′ nodes₂′ memo₂′ : List ℕ)
+    → capacity nodes₁ ≡ capacity nodes₂ → AskPromise rows kept nodes₁ memo₁ a nodes₁′ memo₁′ → AskPromise rows kept nodes₂ memo₂ b nodes₂′ memo₂′ → a ≡ b
+ask-same rows kept nodes₁ memo₁ nodes₂ memo₂ a b nodes₁′ memo₁′ nodes₂′ memo₂′ e p q =
+    ask-is rows kept nodes₁ memo₁ a nodes₁′ memo₁′ p .0 ∙ ap (askModel rows kept) e ∙ sym (ask-is rows kept nodes₂ memo₂ b nodes₂′ memo₂′ q .0)

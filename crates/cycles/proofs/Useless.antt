@@ -60,6 +60,10 @@ module _ (f : Asker) (keeps : Keeps f) where
       let z : _≡_ {A = ℕ} 0 1 = cc in
       omega arith
 
+  -- nor a constant yes, whatever the need
+  pub never-no : ((rows : List ℕ) (kept : ℕ) (nodes memo : List ℕ) (m : ℕ) → f rows kept nodes memo .0 ≡ No m → ⊥) → ⊥
+  never-no h = h blockA 6 room [] 15 (says blockA 6 room [] ∙ answers .a-full-no)
+
   -- it does not leave the node room as lent, nor the memo room
   pub leaves-nodes : ((rows : List ℕ) (kept : ℕ) (nodes memo : List ℕ) → f rows kept nodes memo .1 ≡ nodes) → ⊥
   unfolding lowest

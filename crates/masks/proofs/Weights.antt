@@ -120,7 +120,7 @@ module _ (c : ℕ → ℕ) (S : ℕ) where
           let z : bit S b ≡ false = T-false (bit S b) (h b (omega arith) (omega arith)) in
           rw z (omega (arith, ih (omega arith)))
 
-  pub weight-most : (b : ℕ) → ((v : ℕ) → c v < b) → (n : ℕ) → weight c n S ≤ n * b
+  pub weight-most : (b : ℕ) → ((v : ℕ) → c v ≤ b) → (n : ℕ) → weight c n S ≤ n * b
   unfolding weight
   weight-most b h zero = omega arith
   weight-most b h (suc n) = go (bit S n) (weight-most b h n)

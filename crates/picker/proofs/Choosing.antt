@@ -77,8 +77,13 @@ held-one c n v {best} k S S′ e l p q f =
 -- ---- costs
 
 -- a set of at most 64 flip-flops costs less than 2 ^ 39
+-- "its cost is .. at most 274,877,906,880"
+pub cost-most : (costs : List ℕ) (S : ℕ) → length costs ≤ 64 → ((v : ℕ) → getD costs v 0 ≤ 4294967295)
+    → weight (costOf costs) (length costs) S ≤ 274877906880
+cost-most costs S l h = omega (arith, weight-most (costOf costs) S 4294967295 h (length costs))
+
 pub weight-small : (costs : List ℕ) (S : ℕ) → length costs ≤ 64 → ((v : ℕ) → getD costs v 0 < 2 ^ 32) → weight (costOf costs) (length costs) S < 2 ^ 39
-weight-small costs S l h = omega (arith, weight-most (costOf costs) S (2 ^ 32) h (length costs))
+weight-small costs S l h = omega (arith, cost-most costs S l (λ v. omega (arith, h v)))
 
 pub priced-small : (costs : List ℕ) {best : Best} (k : ℕ) (S : Mask) → best ≡ Set k S → length costs ≤ 64 → ((v : ℕ) → getD costs v 0 < 2 ^ 32)
     → Priced (costOf costs) (length costs) best → k < 2 ^ 39

@@ -52,4 +52,4 @@ module _ (costs : List ℕ) (S : ℕ) where
 
   -- it stays far below the word's end
   pub summing-small : (v total : ℕ) → length costs ≤ 64 → ((u : ℕ) → getD costs u 0 < 2 ^ 32) → Summing costs S v total → total < 2 ^ 39
-  summing-small v total l h s = omega (arith, s .sum, weight-most (costOf costs) S (2 ^ 32) h (min v (length costs)))
+  summing-small v total l h s = omega (arith, s .sum, weight-most (costOf costs) S (2 ^ 32) (λ w. omega (arith, h w)) (min v (length costs)))
