@@ -1,5 +1,5 @@
 -- Joins that need no steps: with a constant, of a code with itself, and those that the memo room has. Assumes nothing.
-use mathlib.Core.Path.{_≡_}
+use mathlib.Core.Path.{_≡_, subst}
 use mathlib.Core.Logic.{_≢_}
 use mathlib.Core.Bool.{Bool, true, false}
 use mathlib.Core.List.{List}
@@ -8,6 +8,8 @@ use native.Mathlib.Omega.{arith}
 use Rattle.masks.specs.Sets.{pick}
 use Rattle.trees.specs.Tree.{Tree, joinT}
 use Rattle.nodes.specs.Codes.{Stands, is-off, is-on, Table}
+use Rattle.nodes.specs.Work.{Ended}
+use Rattle.nodes.specs.declared.memos.Seen.{Seen}
 use Rattle.nodes.proofs.Standing.{stands-one, stands-good}
 use Rattle.trees.proofs.Branches.{unitT, zeroT, join-left, join-right, join-self}
 
@@ -46,3 +48,8 @@ module _ (or : Bool) (a b : ℕ) (ws : List ℕ) (s t : Tree) (T : Table ws) (sa
   end-same e =
       let k : t ≡ s = stands-one sb (rw e at sa) in
       rw (k, join-self or s 0 (stands-good T sa)) sa
+
+-- ---- what `ends` says, of the answer that it gave
+
+pub ended-as : (or : Bool) (a b : ℕ) {r r′ : Seen} → r ≡ r′ → Ended or a b r → Ended or a b r′
+ended-as or a b e k = subst (Ended or a b) e k

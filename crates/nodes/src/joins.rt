@@ -73,7 +73,7 @@ fn unit(or: bool) -> Node
 }
 
 // The join where one code is a constant or both are the same.
-fn ends(or: bool, a: Node, b: Node) -> Seen
+pub fn ends(or: bool, a: Node, b: Node) -> Seen
     ensures { λ r. ⌜ Ended or (a .0) (b .0) r ⌝ }
 {
     let same = unit(or);
@@ -106,7 +106,7 @@ fn known(memo: &[u64], or: bool, a: Node, b: Node) -> Seen
     }
 }
 
-// OR, or else AND. The number of remaining variables falls at each call.
+// OR, or else AND. Small, so that it is inlined where `descend` calls it: a known join costs no call there.
 pub fn join(nodes: &mut [u64], memo: &mut [u64], or: bool, a: Node, b: Node) -> Made
     requires { ⌜ Joinable (now nodes) (now memo) (a .0) (b .0) × (0 < length (now memo)) ⌝ }
     ensures { λ r. ⌜ Joined or (now (nodes .entry)) (now (nodes .exit)) (now (memo .exit)) (a .0) (b .0) r ⌝ }
@@ -114,6 +114,14 @@ pub fn join(nodes: &mut [u64], memo: &mut [u64], or: bool, a: Node, b: Node) -> 
     if let Seen::Answer(r) = known(memo, or, a, b) {
         return Made::At(r);
     }
+    descend(nodes, memo, or, a, b)
+}
+
+// Down both nodes by the lower variable, one decision at a time, where the join is not known. The number of remaining variables falls at each call.
+pub fn descend(nodes: &mut [u64], memo: &mut [u64], or: bool, a: Node, b: Node) -> Made
+    requires { ⌜ Joinable (now nodes) (now memo) (a .0) (b .0) × (0 < length (now memo)) × (2 ≤ a .0) × (2 ≤ b .0) ⌝ }
+    ensures { λ r. ⌜ Joined or (now (nodes .entry)) (now (nodes .exit)) (now (memo .exit)) (a .0) (b .0) r ⌝ }
+{
     let p = split(nodes, a, b);
     let Made::At(low) = join(nodes, memo, or, p.a0, p.b0) else {
         return Made::Full;

@@ -14,9 +14,12 @@ ghost use Rattle.trees.specs.Tree.{off, on, br};
 ghost use Rattle.nodes.specs.Codes.{variables, Held, Table};
 ghost use Rattle.nodes.specs.Promise.{Outcome, Makeable, MakePromise, Joinable, Joined, LookPromise, ValuePromise};
 ghost use Rattle.nodes.specs.Rooms as rooms;
+use joins::descend;
+use joins::ends;
 use joins::join;
 use masks::Mask;
 use masks::Vertex;
+use memos::Seen;
 use probes::Spot;
 use probes::probe;
 use words::high_of;
@@ -84,14 +87,17 @@ pub fn and(nodes: &mut [u64], memo: &mut [u64], a: Node, b: Node) -> Made
     joined(nodes, memo, false, a, b)
 }
 
-// A join with a memo that is long enough: where the lent one is short, a local one takes its place.
+// A join with a memo that is long enough: where the lent one is short, an empty local one takes its place, unless the join needs no steps.
 fn joined(nodes: &mut [u64], memo: &mut [u64], or: bool, a: Node, b: Node) -> Made
     requires { ⌜ Joinable (now nodes) (now memo) (a .0) (b .0) ⌝ }
     ensures { λ r. ⌜ Joined or (now (nodes .entry)) (now (nodes .exit)) (now (memo .exit)) (a .0) (b .0) r ⌝ }
 {
     if memo.len() < 4096 {
+        if let Seen::Answer(r) = ends(or, a, b) {
+            return Made::At(r);
+        }
         let mut own = [0u64; 4096];
-        return join(nodes, &mut own, or, a, b);
+        return descend(nodes, &mut own, or, a, b);
     }
     join(nodes, memo, or, a, b)
 }

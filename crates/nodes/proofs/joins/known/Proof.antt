@@ -1,10 +1,6 @@
 -- `known` meets its contract. Assumes nothing.
 use borrow.Author.Needs.{needs}
-use mathlib.Core.Path.{_≡_, subst}
-use mathlib.Core.Bool.{Bool}
-use Prim.Native.Nat.{ℕ}
-use Rattle.nodes.specs.Work.{Ended}
-use Rattle.nodes.specs.declared.memos.Seen.{Seen}
+use Rattle.nodes.proofs.Ending.{ended-as}
 use Rattle.nodes.proofs.Remembering.{known-recalled}
 use Rattle.nodes.proofs.joins.known.Statement.{statement}
 use Rattle.nodes.proofs.joins.known.Tie as tie
@@ -20,10 +16,6 @@ enum-told c = search needs
 
 recall-requires : tie.Need-recall-requires
 recall-requires c κs = search needs
-
--- what `ends` says, of the answer that it gave
-ended-as : (or : Bool) (a b : ℕ) {r r′ : Seen} → r ≡ r′ → Ended or a b r → Ended or a b r′
-ended-as or a b e k = subst (Ended or a b) e k
 
 returns : tie.Need-returns
 returns c ws s t T m sa sb =
