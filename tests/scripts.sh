@@ -119,6 +119,7 @@ bad_file 'refused 6 0' 'the file version is 257, not 1 (refusal 6)' < <(printf '
 bad_file 'refused 1 0' '65 flip-flops are more than 64 (refusal 1)' < <(printf 'FVG\1\0\101' && times 780 '\0')
 bad_file 'refused 7 0' 'the file has 53 bytes; with 4 flip-flops it has 54 (refusal 7)' <examples/damaged.fvg
 bad_file 'refused 7 0' 'the file has 55 bytes; with 4 flip-flops it has 54 (refusal 7)' < <(cat examples/a.fvg && printf '\0')
+bad_file 'refused 7 0' 'the file has 775 bytes; with 64 flip-flops it has 774 (refusal 7)' < <(cat examples/ring64.fvg && printf '\0')
 bad_file 'refused 7 0' 'the file has 7 bytes; with 0 flip-flops it has 6 (refusal 7)' < <(cat examples/empty.fvg && printf '\0')
 bad_file 'refused 3 0' 'row 0 has bit 1; the flip-flops are 0 to 0 (refusal 3)' < <(printf 'FVG\1\0\1\1\0\0\0\2' && times 7 '\0')
 bad_file 'refused 3 3' 'row 3 has bit 63; the flip-flops are 0 to 3 (refusal 3)' < <(head -c 53 examples/a.fvg && printf '\200')

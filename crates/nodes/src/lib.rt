@@ -96,6 +96,7 @@ fn joined(nodes: &mut [u64], memo: &mut [u64], or: bool, a: Node, b: Node) -> Ma
         if let Seen::Answer(r) = ends(or, a, b) {
             return Made::At(r);
         }
+        // nothing is known in an empty memo; and since it is called here too, the compiler keeps `descend` apart and tells known joins without a call
         let mut own = [0u64; 4096];
         return descend(nodes, &mut own, or, a, b);
     }
