@@ -141,11 +141,6 @@ ones-some m (suc v) t =
     let k : 1 ≤ ones (m / 2) = ones-some (m / 2) v (subst T (bit-suc m v) t) in
     omega (arith, ones-step m)
 
--- different flip-flops, each a member: no more than the set has
-pub differ-ones : (n m : ℕ) → m < 2 ^ n → (xs : List ℕ) → Differ xs → ((v : ℕ) → Of v xs → (v < n) × T (bit m v)) → length xs ≤ ones m
-differ-ones n m l xs d h =
-    omega (arith, each-ones n m l, differ-le xs (each n (bit m)) d (λ v o. each-to n (bit m) v (h v o .0) (h v o .1)))
-
 -- different flip-flops below n: no more than n
 all-length : (n : ℕ) → length (each n (λ v. true)) ≡ n
 unfolding each

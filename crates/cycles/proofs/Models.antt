@@ -1,28 +1,25 @@
--- The model of a component: its listed functions and its cycle function as trees, with the need that they give, after any number of passes; and that
--- stopping once a pass leaves the trees of B as they are changes neither. Assumes nothing.
-use mathlib.Core.Path.{_≡_, sym, ap, _∙_, subst}
+-- The model of a component: its listed functions and its cycle function as trees, with the need that they give, after any number of passes.
+-- Assumes nothing.
+use mathlib.Core.Path.{_≡_, subst}
 use mathlib.Core.Bool.{Bool}
 use mathlib.Core.List.{List, map}
-use Prim.Native.Nat.{ℕ, suc, _≤_, _<_}
+use Prim.Native.Nat.{ℕ, _<_}
 use lib.Count.{ones}
 use lib.Dec.{T}
 use lib.ListN.{length}
-use Rattle.masks.specs.Sets.{bit}
 use Rattle.graphs.specs.Graph.{Of}
 use Rattle.graphs.specs.Components.{Component, inside}
 use Rattle.graphs.proofs.Components.{EdgesBelow}
 use Rattle.trees.specs.Tree.{Tree, eval, subsAll, once}
 use Rattle.trees.specs.Need.{Need}
-use Rattle.trees.proofs.Canonical.{canon}
-use Rattle.trees.proofs.Needs.{need-trees, need-unique}
+use Rattle.trees.proofs.Needs.{need-trees}
 use Rattle.cycles.specs.Search.{backOf}
-use Rattle.cycles.specs.Passes.{F, result, listed, cycle, functions}
+use Rattle.cycles.specs.Passes.{result, listed, cycle, functions}
 use Rattle.graphs.proofs.Parts.{inside-edge}
 use Rattle.cycles.proofs.Logs.{orderOf}
 use Rattle.cycles.proofs.Searches.{member-lt, back-lt, back-meets, order-of, order-differ, order-sorted}
 use Rattle.cycles.proofs.Passes.{inside-source}
-use Rattle.cycles.proofs.Stops.{Settled, component-need-stops, cycle-stops}
-use Rattle.cycles.proofs.PassTrees.{look, Run, run, listedT, resultT, run-is, listed-are, result-is}
+use Rattle.cycles.proofs.PassTrees.{Run, run, listedT, resultT, listed-are, result-is}
 use Rattle.cycles.proofs.FineTrees.{Fine, AllFine, fine-good, RunFine, run-fine, listed-fine, result-fine}
 
 -- of the component C of E: after k passes, and after as many as B has members
@@ -53,13 +50,6 @@ module _ {E : ℕ → ℕ → Bool} {n C : ℕ} (low : EdgesBelow E n) (comp : C
 
   order-all : (u v : ℕ) → T (inside E C u v) → Of v (orderOf E n C)
   order-all u v e = order-of low comp v .1 (inside-edge E C u v e .1)
-
-  -- the trees of each pass
-  pub run-shows : (k v : ℕ) → eval (look (runOf E n C k .now) v) ≡ F (inside E C) n (backOf E n C) k v
-  unfolding runOf
-  run-shows k v =
-      run-is (inside E C) n (backOf E n C) C (inside-source low comp) (back-meets low comp) (orderOf E n C) (order-sorted low comp) (order-differ low comp)
-      order-below order-all (back-lt low comp) k .shows v
 
   -- the trees of the listed functions, in their order
   pub functions-after : (k : ℕ) → map eval (functionsAfter E n C k) ≡ listed (inside E C) n (backOf E n C) C k
@@ -102,19 +92,3 @@ module _ {E : ℕ → ℕ → Bool} {n C : ℕ} (low : EdgesBelow E n) (comp : C
 
   pub cycle-is : (K : ℕ) → eval (cycleT E n C) K ≡ cycle E n C K
   cycle-is = cycle-after (ones (backOf E n C))
-
-  -- stopping once a pass leaves the trees of the members of B as they are
-  module _ (i : ℕ) (same : (b : ℕ) → T (bit (backOf E n C) b) → look (runOf E n C (suc i) .now) b ≡ look (runOf E n C i .now) b)
-      (within-k : suc i ≤ ones (backOf E n C)) where
-    pub trees-settled : Settled (inside E C) n (backOf E n C) i
-    trees-settled b t = sym (run-shows (suc i) b) ∙ ap eval (same b t) ∙ run-shows i b
-
-    pub need-early : needAfter E n C (suc i) ≡ needOf E n C
-    need-early =
-        need-unique (functions E n C) (needAfter E n C (suc i)) (needOf E n C)
-        (component-need-stops E n C i trees-settled within-k (needAfter E n C (suc i)) .1 (need-after (suc i))) need-of
-
-    pub cycle-early : cycleAfter E n C (suc i) ≡ cycleT E n C
-    cycle-early =
-        canon 0 0 (cycleAfter E n C (suc i)) (cycleT E n C) (cycle-fine (suc i) .good) (cycle-fine (ones (backOf E n C)) .good)
-        (λ K. cycle-after (suc i) K ∙ sym (ap (λ f. f K) (cycle-stops E n C i trees-settled within-k)) ∙ sym (cycle-is K))

@@ -16,16 +16,15 @@ use Rattle.masks.proofs.Lowest.{lowest-is}
 use Rattle.graphs.specs.Graph.{Of, Differ, Walk, edge-to, step-to}
 use Rattle.graphs.specs.Light.{left, Meets}
 use Rattle.graphs.specs.Components.{every, Component, Lowest, inside}
-use Rattle.graphs.proofs.Lists.{differ-le, of-at, at-of, differ-at}
+use Rattle.graphs.proofs.Lists.{of-at, at-of, differ-at}
 use Rattle.graphs.proofs.Walks.{source-lt, carry}
 use Rattle.graphs.proofs.Loops.{Hits, meets-hits}
-use Rattle.graphs.proofs.Components.{EdgesBelow, component-lowest, component-at, component-inside, component-lt}
+use Rattle.graphs.proofs.Components.{EdgesBelow, component-lowest, component-at, component-inside}
 use Rattle.graphs.proofs.Lowest.{lowest-one}
 use Rattle.masks.proofs.Those.{members-lt}
 use Rattle.graphs.proofs.Parts.{inside-edge}
 use Rattle.cycles.specs.Search.{searched, backOf}
-use Rattle.cycles.specs.Passes.{each}
-use Rattle.cycles.proofs.Each.{each-from, each-differ, each-ones, ones-some, differ-ones}
+use Rattle.cycles.proofs.Each.{ones-some}
 use Rattle.cycles.specs.Work.{Log, begun, visitL, Later}
 use Rattle.cycles.proofs.Logs.{visit-same, orderOf}
 use Rattle.cycles.proofs.Visits.{Did, did, reached, no-round, root-out}
@@ -174,15 +173,6 @@ module _ {E : ℕ → ℕ → Bool} {n C : ℕ} (low : EdgesBelow E n) (comp : C
 
   pub order-differ : Differ (orderOf E n C)
   order-differ = subst Differ order-is (final-did .0 .inv .differ)
-
-  pub order-length : length (orderOf E n C) ≡ ones C
-  order-length =
-      omega (
-        arith,
-        each-ones n C (component-lt low comp),
-        differ-ones n C (component-lt low comp) (orderOf E n C) order-differ (λ v m. let t = order-of v .0 m in (member-lt v t, t)),
-        differ-le (each n (bit C)) (orderOf E n C) (each-differ n (bit C)) (λ v m. order-of v .1 (each-from n (bit C) v m .1)),
-      )
 
   -- an edge from outside B leads to one that ended earlier
   pub order-earlier : (i : ℕ) → i < length (orderOf E n C) → T (left (backOf E n C) (getD (orderOf E n C) i 0)) → (w : ℕ)

@@ -1,14 +1,12 @@
 -- The whole search of a component by the code: it begins at the lowest member with nothing visited, and what it ends with is B and the order of the
 -- definition. Assumes nothing.
 use mathlib.Core.Path.{_≡_, sym, ap, _∙_, subst}
-use mathlib.Core.Bool.{Bool}
 use mathlib.Core.List.{List}
-use Prim.Native.Nat.{ℕ, _≤_, _<_}
+use Prim.Native.Nat.{ℕ, _<_}
 use native.Mathlib.Omega.{arith}
 use native.Mathlib.Decide.{decLt}
 use lib.Dec.{T}
-use lib.ListN.{length, getD, take}
-use lib.Seq.{getD-take, length-take-le}
+use lib.ListN.{length, take}
 use Rattle.masks.specs.Sets.{bit, lowest, number}
 use Rattle.masks.proofs.Bits.{zero-member}
 use Rattle.masks.proofs.Weights.{weight-none, count-le}
@@ -17,7 +15,6 @@ use Rattle.graphs.specs.Graph.{edge}
 use Rattle.graphs.specs.Components.{Component, Lowest, inside}
 use Rattle.graphs.specs.Work.{Sound}
 use Rattle.graphs.proofs.Components.{EdgesBelow}
-use Rattle.graphs.proofs.Lists.{at-of}
 use Rattle.graphs.proofs.InOrder.{sound-below}
 use Rattle.cycles.specs.Search.{backOf}
 use Rattle.cycles.specs.Work.{Log, begun, visitL, logOf, Visitable, VisitDone, Sorted, Searched}
@@ -111,9 +108,3 @@ module _ (rows : List ℕ) (C : ℕ) (sound : Sound rows) (comp : Component (edg
           sorted = record { members = order-of low comp; differ = order-differ low comp; later = order-sorted low comp }
 
 -- ---- what a caller learns of the order
-
--- each place below the count holds a member
-pub order-at : (E : ℕ → ℕ → Bool) (n C : ℕ) (r : Order) → Searched E n C r → n ≤ 64 → (i : ℕ) → i < r .count → T (bit C (getD (r .flops) i 0))
-order-at E n C r s few i l =
-    subst (λ z. T (bit C z)) (getD-take (r .count) (r .flops) i 0 l)
-    (s .order .members _ .0 (at-of (take (r .count) (r .flops)) i (rw (length-take-le (r .count) (r .flops) (omega (arith, s .few, s .long))) l)))

@@ -4,7 +4,7 @@ use mathlib.Core.Path.{_≡_, refl, sym, subst}
 use mathlib.Core.Logic.{_≢_, _⊎_, inl, inr, ⊎-elim, _↔_, Iff·trans, Iff·symm}
 use mathlib.Core.Bool.{Bool, true, false, _&&_}
 use mathlib.Core.List.{List, [], _∷_, map}
-use Prim.Native.Nat.{ℕ, zero, suc, _+_, _≤_, _<_, _^_}
+use Prim.Native.Nat.{ℕ, zero, suc, _+_, _≤_, _<_}
 use native.Mathlib.Omega.{arith}
 use native.Mathlib.Decide.{ℕ-discrete, decLt}
 use lib.Dec.{T, eqb, eqb→eq}
@@ -15,7 +15,7 @@ use Rattle.graphs.specs.Graph.{edge, plain, Of, Walk}
 use Rattle.graphs.specs.Light.{Meets, Lightest}
 use Rattle.graphs.specs.Components.{every, Component, Lowest, Ascending, Components, inside}
 use Rattle.masks.proofs.Bits.{same-members}
-use Rattle.masks.proofs.Those.{members-lt, those-iff, those-none}
+use Rattle.masks.proofs.Those.{those-iff, those-none}
 use Rattle.graphs.proofs.Lowest.{lowest-of, lowest-one, ascending-cons, ascending-rest, ascending-all, ascending-unique}
 use Rattle.graphs.proofs.Walks.{source-lt, target-lt, join, widen}
 use Rattle.graphs.proofs.Loops.{RowsFit, meets-hits, edge-from, edge-to-lt}
@@ -49,9 +49,6 @@ pub component-inside : {E : ℕ → ℕ → Bool} {C : ℕ} → Component E C �
 component-inside {E} {C} p v w s t =
     let r = component-at p v s w .0 t in
     stay E C every v w s t (λ x f g. component-at p v s x .1 (f, join g (r .1))) (r .0)
-
-pub component-lt : {E : ℕ → ℕ → Bool} {C n : ℕ} → EdgesBelow E n → Component E C → C < 2 ^ n
-component-lt {E} {C} {n} low p = members-lt n C (λ v t. target-lt (λ a b e. low a b e .1) (p .exact v .0 t .0))
 
 -- two that share a flip-flop are one
 pub component-one : {E : ℕ → ℕ → Bool} {C D : ℕ} → Component E C → Component E D → (v : ℕ) → T (bit C v) → T (bit D v) → C ≡ D

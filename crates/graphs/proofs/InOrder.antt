@@ -12,7 +12,7 @@ use lib.Dec.{T, eqb, eqb→eq}
 use lib.ListN.{length, getD}
 use borrow.Author.Tests.{eq-eqb}
 use Rattle.masks.specs.Sets.{bit, lowest}
-use Rattle.masks.proofs.Bits.{same-members, not-zero}
+use Rattle.masks.proofs.Bits.{same-members}
 use Rattle.masks.proofs.Nexts.{onward, Next, next-is}
 use Rattle.graphs.specs.Graph.{edge, Of}
 use Rattle.graphs.specs.Components.{Component, Lowest, Ascending, Components}
@@ -20,7 +20,6 @@ use Rattle.graphs.specs.Refusals.{first, checks}
 use Rattle.graphs.specs.Work.{Sound, Reaching, Around, Leads, NextComponent}
 use Rattle.graphs.proofs.Lists.{Of-cases, Of-right}
 use Rattle.graphs.proofs.Walks.{source-lt}
-use Rattle.graphs.proofs.Loops.{edge-from}
 use Rattle.graphs.proofs.Lowest.{lowest-one, ascending-rest, ascending-all}
 use Rattle.graphs.proofs.Tables.{checks-passed}
 use Rattle.graphs.proofs.Components.{EdgesBelow, component-lowest, component-at, componentsOf, edges-below, components-found}
@@ -223,9 +222,3 @@ pub sound-checked : (rows : List ℕ) (costs : ℕ) → first (checks rows costs
 sound-checked rows costs e =
     let c = checks-passed rows costs e in
     record { few = c .few; fit = c .fit }
-
--- who reaches whom has no row past the last
-pub reaching-past : (rows reached : List ℕ) → Reaching (edge rows) reached → (u : ℕ) → length rows ≤ u → getD reached u 0 ≡ 0
-reaching-past rows reached right u l =
-    same-members (getD reached u 0) 0
-    (λ w. (λ t. let k : u < length rows = source-lt (edge-from rows) (right u w .0 t) in absurd (omega arith), λ t. absurd (not-zero w t)))

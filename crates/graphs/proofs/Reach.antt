@@ -7,7 +7,7 @@ use mathlib.Core.List.{List, map}
 use Prim.Native.Nat.{ℕ, zero, suc, _<_, _^_}
 use native.Mathlib.Omega.{arith}
 use native.Mathlib.Decide.{ℕ-discrete, map-dec}
-use lib.Bits.{bitOr, or-lt, or-self}
+use lib.Bits.{bitOr, or-lt}
 use lib.Dec.{T}
 use lib.ListN.{length, getD, length-map, List·getD-map}
 use Rattle.masks.specs.Sets.{bit, pick}
@@ -16,7 +16,7 @@ use Rattle.masks.proofs.Bits.{bit-or, bit-zero}
 use Rattle.graphs.specs.Graph.{edge, plain, Walk, edge-to, step-to}
 use Rattle.graphs.specs.Components.{every}
 use Rattle.graphs.proofs.Walks.{source-lt, widen}
-use Rattle.graphs.proofs.Loops.{RowsFit, rows-lt, row-from, edge-plain, plain-length}
+use Rattle.graphs.proofs.Loops.{row-from, edge-plain, plain-length}
 
 -- the bit w of row u
 abbrev pub arc : List ℕ → ℕ → ℕ → Bool
@@ -46,14 +46,6 @@ through-row k rows u = ap (getD (map f rows) u) (sym none) ∙ List·getD-map f 
 
     none : f 0 ≡ 0
     none = ap (λ b. pick b (bitOr 0 (getD rows k 0)) 0) (bit-zero k)
-
--- row k itself stays, so the rows may be changed one by one
-pub through-own : (k : ℕ) (rows : List ℕ) → getD (through k rows) k 0 ≡ getD rows k 0
-through-own k rows = through-row k rows k ∙ go (arc rows k k)
-  where
-    go : (x : Bool) → pick x (bitOr (getD rows k 0) (getD rows k 0)) (getD rows k 0) ≡ getD rows k 0
-    go true = or-self (getD rows k 0)
-    go false = refl
 
 pub through-arc : (k : ℕ) (rows : List ℕ) (u w : ℕ) → arc (through k rows) u w ≡ (arc rows u w || (arc rows u k && arc rows k w))
 through-arc k rows u w = ap (λ r. bit r w) (through-row k rows u) ∙ go (arc rows u k)
@@ -164,9 +156,6 @@ closure-lt (suc k) n rows h v = rw through-row (go (arc (closure k rows) v k) (c
     go : (x : Bool) {a b : ℕ} → a < 2 ^ n → b < 2 ^ n → pick x (bitOr a b) a < 2 ^ n
     go true {a} {b} p q = or-lt n a b p q
     go false p q = p
-
-pub closure-fits : (k : ℕ) (rows : List ℕ) → RowsFit rows → RowsFit (closure k rows)
-closure-fits k rows fit v l = rw closure-length (closure-lt k (length rows) rows (rows-lt rows fit) v)
 
 -- ---- in any graph whose edges go out of flip-flops below n
 

@@ -6,9 +6,9 @@ use Prim.Native.Nat.{ℕ, zero, suc, _+_, _/_, _%_, _^_, _<_}
 use native.Mathlib.Omega.{arith}
 use native.Mathlib.Nat.{pow-suc}
 use native.Mathlib.Decide.{ℕ-discrete}
-use borrow.Author.Tests.{eqb-false, eq-eqb}
+use borrow.Author.Tests.{eqb-false}
 use lib.Count.{ones, ones-step}
-use lib.Dec.{T, eqb}
+use lib.Dec.{T}
 use Rattle.masks.specs.Sets.{bit, cut, lowest}
 use Rattle.masks.proofs.Tests.{T-true}
 use Rattle.masks.proofs.Bits.{bit-low, bit-suc, no-member}
@@ -27,13 +27,6 @@ ones-add (suc v) m e =
 
 pub ones-cut : (m v : ℕ) → T (bit m v) → ones m ≡ suc (ones (cut m v))
 ones-cut m v t = ap ones (sym (cut-add m v (T-true (bit m v) t))) ∙ ones-add v (cut m v) (cut-same m v)
-
-pub some-member : (n m : ℕ) → m < 2 ^ n → (T (eqb m 0) → ⊥) → (v : ℕ) × T (bit m v)
-some-member n m l k = go (lowest-cases n (bit m))
-  where
-    go : ((lowest n (bit m) < n) × T (bit m (lowest n (bit m)))) ⊎ ((lowest n (bit m) ≡ n) × ((w : ℕ) → w < n → T (bit m w) → ⊥)) → (v : ℕ) × T (bit m v)
-    go (inl r) = (lowest n (bit m), r .1)
-    go (inr r) = absurd (k (subst T (sym (eq-eqb m 0 (no-member n m l (r .1)))) tt))
 
 -- the lowest member of a set that has one member is all its members
 pub record Sole (m u : ℕ) : Type 0 where

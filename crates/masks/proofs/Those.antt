@@ -9,7 +9,7 @@ use native.Mathlib.Decide.{ℕ-discrete, decLt}
 use lib.Dec.{T, leb, leb→le, le→leb}
 use Rattle.masks.specs.Sets.{bit, pick, those, lowest}
 use Rattle.masks.proofs.Tests.{and-T, T-and}
-use Rattle.masks.proofs.Bits.{bit-high, bit-ext, bit-zero, add-same, add-other, number-lt, same-members, bit-lt}
+use Rattle.masks.proofs.Bits.{bit-high, bit-zero, add-same, add-other, number-lt, same-members, bit-lt}
 use Rattle.masks.proofs.Lowest.{lowest-cases}
 
 pub those-lt : (n : ℕ) (p : ℕ → Bool) → those n p < 2 ^ n
@@ -38,10 +38,6 @@ those-in (suc n) p v l = go (p n) refl (ℕ-discrete v n) (those-in n p v)
     go true e (no k) ih = rw e (add-other (those n p) n v clear k ∙ ih (omega (arith, k)))
     go false e (yes q) ih = rw (q, e) (ap (λ x. bit x n) (omega arith) ∙ clear)
     go false e (no k) ih = rw e (ap (λ x. bit x v) (omega arith) ∙ ih (omega (arith, k)))
-
--- two tests that agree below n give one set
-pub those-ext : (n : ℕ) (p q : ℕ → Bool) → ((v : ℕ) → v < n → p v ≡ q v) → those n p ≡ those n q
-those-ext n p q h = bit-ext n (those n p) (those n q) (those-lt n p) (those-lt n q) (λ v l. those-in n p v l ∙ h v l ∙ sym (those-in n q v l))
 
 pub those-iff : (n : ℕ) (p : ℕ → Bool) (v : ℕ) → T (bit (those n p) v) ↔ ((v < n) × T (p v))
 those-iff n p v = (λ t. forth t (decLt v n), λ h. subst T (sym (those-in n p v (h .0))) (h .1))

@@ -77,10 +77,6 @@ module _ (w a b : ℕ) (la : a < 2 ^ w) (lb : b < 2 ^ w) where
 pub bit-minus : (w a b v : ℕ) → a < 2 ^ w → b < 2 ^ w → v < w → bit (minus a b) v ≡ (bit a v && not (bit b v))
 bit-minus w a b v la lb l = ap (λ x. bit x v) (sym (and-minus w a b la lb)) ∙ bit-and a (2 ^ w - 1 - b) v ∙ ap (λ x. bit a v && x) (comp-bit w b v lb l)
 
-pub minus-le : (a b : ℕ) → minus a b ≤ a
-unfolding minus
-minus-le a b = omega arith
-
 -- r has a member at n or above exactly when something of it is left without those below n
 pub wide-test : (n r : ℕ) → leb (2 ^ n) r ≡ not (eqb (minus r (2 ^ n - 1)) 0)
 unfolding minus

@@ -12,4 +12,3 @@ pub mod Composing
 pub mod Applying
 pub mod Counting
 pub mod Listing
-pub mod Calling

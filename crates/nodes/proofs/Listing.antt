@@ -1,18 +1,18 @@
 -- A room that holds a list of trees: it begins empty, each operation adds the tree that it was asked for, and the number of words in use is the need of
 -- their functions; or the room is full, and their need exceeds its length. Assumes nothing.
 use mathlib.Core.Path.{_≡_, refl, sym, subst, _∙_}
-use mathlib.Core.Logic.{inl, inr, ⊎-elim, _↔_}
+use mathlib.Core.Logic.{inl, inr, ⊎-elim}
 use mathlib.Core.Bool.{Bool}
 use mathlib.Core.List.{List, [], _∷_, map}
 use Prim.Native.Nat.{ℕ, _≤_, _<_}
 use native.Mathlib.Omega.{arith}
 use lib.ListN.{length, getD, replicate, length-replicate}
 use Rattle.graphs.specs.Graph.{Of}
-use Rattle.graphs.proofs.Lists.{differ-le, Of-left, Of-right}
+use Rattle.graphs.proofs.Lists.{Of-left, Of-right}
 use Rattle.trees.specs.Tree.{Tree, eval, subs, subsAll, once}
 use Rattle.trees.specs.Need.{Need}
 use Rattle.trees.proofs.Canonical.{Good}
-use Rattle.trees.proofs.Needs.{Within, need-within, once-of, once-differ, AllGood, subs-from, subs-to, need-trees}
+use Rattle.trees.proofs.Needs.{Within, need-within, AllGood, subs-from, need-trees}
 use Rattle.nodes.specs.Rooms.{used}
 use Rattle.nodes.specs.Codes.{Stands, Grows}
 use Rattle.nodes.specs.Promise.{Fresh, Built, Short, Outcome, PartsOf, Room, Over, After}
@@ -36,31 +36,6 @@ room-none ws l z =
 
 pub room-zero : (n : ℕ) → n ≤ 65536 → Room (replicate n 0) []
 room-zero n l = room-none (replicate n 0) (omega (arith, length-replicate {A = ℕ} n 0)) (zeros n)
-
--- the same trees in another order, or some of them twice
-pub room-same : (ws : List ℕ) (ts ts′ : List Tree) → ((t : Tree) → Of t ts ↔ Of t ts′) → Room ws ts → Room ws ts′
-room-same ws ts ts′ e r =
-    record {
-      table = r .table;
-      holds = λ t h. r .holds t (e t .1 h);
-      exact =
-          λ s k.
-          let x = r .exact s k in
-          let y = subs-from ts (x .0) (x .1) in
-          (x .0, subs-to ts′ (y .0) (x .0) (e (y .0) .0 (y .1)) (y .2), x .2);
-    }
-
--- a tree that stands in the room may be listed too: a constant, or a part of a listed one
-pub room-also : (ws : List ℕ) (ts : List Tree) (t : Tree) (c : ℕ) → Stands ws c t → Room ws ts → Room ws (t ∷ ts)
-room-also ws ts t c st r =
-    record {
-      table = r .table;
-      holds = λ u. ⊎-elim (λ e. (c, subst (Stands ws c) (sym e) st)) (r .holds u);
-      exact =
-          λ s k.
-          let x = r .exact s k in
-          (x .0, Of-right (x .0) (subs t) (subsAll ts) (x .1), x .2);
-    }
 
 -- every listed tree is good
 pub room-good : (ws : List ℕ) (ts : List Tree) → Room ws ts → AllGood ts
@@ -113,15 +88,6 @@ room-used {ws} {ts} r =
 -- so it is the need of the listed functions
 pub room-need : {ws : List ℕ} {ts : List Tree} → Room ws ts → Need (map eval ts) (used ws)
 room-need {ws} {ts} r = rw (room-used r) (need-trees ts (room-good ws ts r))
-
--- a list of more trees has no fewer parts
-pub over-within : (n : ℕ) (ts ts′ : List Tree) → ((t : Tree) → Of t ts → Of t ts′) → Over n ts → Over n ts′
-over-within n ts ts′ w o =
-    omega (
-      arith,
-      differ-le (once (subsAll ts)) (once (subsAll ts′)) (once-differ (subsAll ts))
-          (λ u h. let x = subs-from ts u (once-of u (subsAll ts) .0 h) in once-of u (subsAll ts′) .1 (subs-to ts′ (x .0) u (w (x .0) (x .1)) (x .2))),
-    )
 
 -- the need of functions among which those of ts are exceeds n
 pub over-need : (n : ℕ) (ts : List Tree) → AllGood ts → Over n ts → (L : List (ℕ → Bool)) (k : ℕ) → Within (map eval ts) L → Need L k → n < k

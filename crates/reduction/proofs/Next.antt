@@ -12,7 +12,7 @@ use lib.Dec.{T, eqb, ltb, eqb→eq, ltb→lt}
 use lib.ListN.{length}
 use borrow.Author.Tests.{lt-ltb, le-ltb, eq-eqb, ne-eqb}
 use Rattle.masks.specs.Sets.{bit, cut, lowest}
-use Rattle.masks.proofs.Tests.{and-T, T-and, T-or, or-l, or-r, T-false}
+use Rattle.masks.proofs.Tests.{and-T, T-and, T-or, T-false}
 use Rattle.masks.proofs.Those.{those-lt, those-in}
 use Rattle.graphs.specs.Graph.{edge}
 use Rattle.graphs.proofs.Walks.{flip}
@@ -22,7 +22,7 @@ use Rattle.reduction.specs.Rules.{State, outs, ins, sole, beats, applies
 use Rattle.reduction.specs.Rules.{Move, recorded, wherever, next}
 use Rattle.masks.proofs.Bits.{zero-member, bit-lt}
 use Rattle.masks.proofs.Lowest.{lowest-cases}
-use Rattle.masks.proofs.Counts.{ones-cut, some-member, Sole, one-member}
+use Rattle.masks.proofs.Counts.{ones-cut, Sole, one-member}
 use Rattle.reduction.proofs.Folding.{OneIn, Cheaper}
 use Rattle.reduction.proofs.States.{arcs, Sane, live-lt, remove-sane, force-sane, foldIn-sane, foldOut-sane}
 
@@ -246,15 +246,3 @@ module _ (c : ℕ → ℕ) (n : ℕ) (s : State) (h : Sane n s) (k : Settled c s
       go : Dec (u ≡ w) → arcs s u w ≡ (not (eqb u w) && arcs s u w)
       go (yes e) = rw (eq-eqb u w e) (T-false (arcs s u w) (λ t. settled-self w (subst (λ x. T (arcs s x w)) e t)))
       go (no j) = rw (ne-eqb u w j)
-
-  -- every live flip-flop has an edge in, and one out
-  joined : (v : ℕ) → T (bit (s .live) v) → T (eqb (ins s v) 0 || eqb (outs s v) 0) → ⊥
-  joined v l t = k .not2 v (and-T (bit (s .live) v) (eqb (ins s v) 0 || eqb (outs s v) 0) l t)
-
-  pub settled-in : (v : ℕ) → T (bit (s .live) v) → (u : ℕ) × T (arcs s u v)
-  settled-in v l =
-      let r = some-member (length (s .rows)) (ins s v) (ins-lt s v) (λ e. joined v l (or-l (eqb (ins s v) 0) (eqb (outs s v) 0) e)) in
-      (r .0, ins-out s (r .0) v (r .1))
-
-  pub settled-out : (v : ℕ) → T (bit (s .live) v) → (w : ℕ) × T (arcs s v w)
-  settled-out v l = some-member (length (s .rows)) (outs s v) (outs-lt c n s h v) (λ e. joined v l (or-r (eqb (ins s v) 0) (eqb (outs s v) 0) e))

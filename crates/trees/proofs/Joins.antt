@@ -30,9 +30,6 @@ mk-at v l h K = mk-is (λ t. at t K ≡ at (br v l h) K) v l h (both (K v)) (λ 
     both true e = ap (λ t. at t K) e
     both false e = refl
 
-pub mk-eval : (v : ℕ) (l h : Tree) (m : ℕ) → eval (mk v l h) m ≡ eval (br v l h) m
-mk-eval v l h m = mk-at v l h (bit m)
-
 pub mk-good : (b v : ℕ) (l h : Tree) → b ≤ v → Good (suc v) l → Good (suc v) h → Good b (mk v l h)
 mk-good b v l h k gl gh =
     mk-is (Good b) v l h (λ e. good-down l (suc v) b (omega arith) gl)
