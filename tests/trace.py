@@ -18,11 +18,13 @@ DEFINED = {
 def stands(name, path):
     if path.is_dir():
         return (path / name).is_file() or (path / f'{name}.edit').is_file()
+    names = [name]
     if path.suffix == '.rt' and name.endswith('-spec'):
-        name = name.lstrip('+')[:-len('-spec')].replace('-', '_')
+        # the theorem of functions that call each other has all their names
+        names = name[:-len('-spec')].strip('+').replace('-', '_').split('+')
     text = path.read_text()
     kind = DEFINED.get(path.suffix)
-    return bool(re.search(kind.format(re.escape(name)), text, re.M)) if kind else name in text
+    return all(re.search(kind.format(re.escape(part)), text, re.M) if kind else part in text for part in names)
 
 
 def check():
