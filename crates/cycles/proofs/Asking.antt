@@ -5,12 +5,11 @@ use mathlib.Core.Logic.{_⊎_, inl, inr, ⊎-elim, _↔_, Iff·trans, Iff·symm}
 use mathlib.Core.Bool.{Bool, true, false, not}
 use mathlib.Core.List.{List, [], _∷_, _++_}
 use mathlib.Core.Option.{Option, none, some}
-use Prim.Native.Nat.{ℕ, _+_, _-_, _^_, _≤_, _<_, min, max}
+use Prim.Native.Nat.{ℕ, _+_, _-_, _^_, _≤_, _<_, max}
 use native.Mathlib.Omega.{arith}
 use lib.Dec.{T, eqb, leb}
 use borrow.Author.Tests.{eq-eqb}
-use lib.ListN.{length, take, drop, replicate, length-replicate, length-take, length-drop, length-append, drop-of-length-le}
-use lib.Seq.{length-take-le, drop-append-le}
+use lib.ListN.{length, take, drop, replicate, length-take}
 use Rattle.masks.specs.Sets.{bit, pick, minus, number}
 use Rattle.masks.proofs.Words.{wide-test}
 use Rattle.graphs.specs.Graph.{edge, Of, Loop}
@@ -29,8 +28,7 @@ use Rattle.nodes.specs.Codes.{Table, Held}
 use Rattle.nodes.specs.Promise.{ValuePromise}
 use Rattle.nodes.specs.Rooms.{used, capacity, emptied, zeroed}
 use Rattle.nodes.specs.declared.Node.{Node}
-use Rattle.nodes.specs.declared.Made.{Made}
-use Rattle.nodes.specs.declared.Made.the-variants.{At, Full}
+use Rattle.nodes.proofs.Clearing.{front-length, lent-emptied}
 use Rattle.nodes.proofs.Counting.{used-within}
 use Rattle.cycles.specs.Passes.{cycle, functions}
 use Rattle.cycles.specs.Needs.{Fit, Excess, Answered}
@@ -38,62 +36,35 @@ use Rattle.cycles.specs.Promise.{keptOutside, askLines, AskAnswer, AskCa
 use Rattle.cycles.specs.declared.Asked.{Asked}
 use Rattle.cycles.specs.declared.Asked.the-variants.{Yes, No, Refused}
 use Rattle.cycles.specs.declared.Part.{Part}
-use Rattle.cycles.specs.declared.Part.the-variants.{Fits, Exceeds}
-use Rattle.cycles.specs.Work.{Buildable, BuiltAt, BuildPromise, PartPromise}
+use Rattle.cycles.specs.declared.Part.the-variants as part
+use Rattle.cycles.specs.declared.making.Built.{Built}
+use Rattle.cycles.specs.declared.making.Built.the-variants.{Within, Exceeds}
+use Rattle.cycles.specs.Work.{BuiltAt, TooSmall, ComponentPromise, PartPromise}
 use Rattle.cycles.proofs.Passes.{cycle-loop, loop-parts}
+use Rattle.cycles.proofs.Parts.{part-built}
 use Rattle.cycles.proofs.Fits.{fit-more, excess-after}
 
 -- ---- one component
 
-module _ (rows : List ℕ) (C : ℕ) (ws : List ℕ) where
-  -- in emptied rooms
-  pub part-buildable : (ws₁ ms ms₁ : List ℕ) → Sound rows → Component (edge rows) C → length ws ≤ 65536 → ws₁ ≡ zeroed ws → ms₁ ≡ zeroed ms
-      → Buildable rows C ws₁ ms₁
-  part-buildable ws₁ ms ms₁ s p l e f =
-      let k : length ws₁ ≡ length ws = ap length e ∙ length-replicate (length ws) 0 in
-      record {
-        sound = s;
-        component = p;
-        small = omega arith;
-        room = subst (λ m. ws₁ ≡ replicate m 0) (sym k) e;
-        memo = subst (λ m. ms₁ ≡ replicate m 0) (sym (ap length f ∙ length-replicate (length ms) 0)) f;
-      }
+module _ (rows : List ℕ) (C kept : ℕ) (ws ws₁ : List ℕ) (same : length ws₁ ≡ length ws) (built : Built)
+    (b : ComponentPromise (edge rows) (length rows) C ws₁ built) where
+  pub part-full : built ≡ Exceeds → PartPromise (edge rows) (length rows) C kept (length ws) part.Exceeds
+  part-full e = subst (TooSmall (edge rows) (length rows) C) same (subst (ComponentPromise (edge rows) (length rows) C ws₁) e b)
 
-  module _ (kept : ℕ) (ws₁ ws₂ : List ℕ) (same : length ws₁ ≡ length ws) (made : Made) (b : BuildPromise (edge rows) (length rows) C ws₁ ws₂ made) where
-    pub part-full : made ≡ Full → PartPromise (edge rows) (length rows) C kept (length ws) Exceeds
-    part-full e =
-        let r = subst (BuildPromise (edge rows) (length rows) C ws₁ ws₂) e b .1 in
-        (r .0, r .1, subst (λ m. m < r .0) same (r .2))
+  module _ (k : ℕ) (c : Node) (e : built ≡ Within k c) where
+    stands : BuiltAt (edge rows) (length rows) C (take k ws₁) (c .0)
+    stands = part-built (edge rows) (length rows) C ws₁ built b k c e .1
 
-    module _ (c : Node) (e : made ≡ At c) where
-      built : (length ws₂ ≡ length ws₁) × BuiltAt (edge rows) (length rows) C ws₂ (c .0)
-      built = subst (BuildPromise (edge rows) (length rows) C ws₁ ws₂) e b
+    pub part-valued : Table (take k ws₁) × Held (take k ws₁) 0 (c .0)
+    part-valued = (stands .table, record { tree = stands .tree; stands = stands .stands; ordered = stands .ordered })
 
-      pub part-valued : Table ws₂ × Held ws₂ 0 (c .0)
-      part-valued =
-          (built .1 .table, record { tree = built .1 .tree; stands = built .1 .stands; ordered = built .1 .ordered })
-
-      pub part-done : (k : ℕ) (x : Bool) → k ≡ used ws₂ → ValuePromise ws₂ (c .0) kept x → PartPromise (edge rows) (length rows) C kept (length ws) (Fits k x)
-      part-done k x q v = (
-        subst (Need (functions (edge rows) (length rows) C)) (sym q) (built .1 .need),
-        omega (arith, used-within ws₂, built .0),
-        v (built .1 .tree) (built .1 .stands) ∙ built .1 .is kept,
-      )
-
--- what fits a part of the room fits the room
-pub part-wider : (E : ℕ → ℕ → Bool) (n C kept room whole : ℕ) (part : Part) (k : ℕ) (x : Bool) → room ≤ whole → part ≡ Fits k x
-    → PartPromise E n C kept room part → PartPromise E n C kept whole (Fits k x)
-part-wider E n C kept room whole part k x l e p =
-    let q = subst (PartPromise E n C kept room) e p in
-    (q .0, omega (arith, q .1), q .2)
-
--- a room whose first k words were lent is as long as before
-pub lent-length : (k : ℕ) (ws front : List ℕ) → length front ≡ length (take k ws) → length (front ++ drop k ws) ≡ length ws
-lent-length k ws front e = length-append front (drop k ws) ∙ omega (arith, e, length-take k ws, length-drop k ws)
-
-pub part-again : (E : ℕ → ℕ → Bool) (n C kept k : ℕ) (ws front : List ℕ) (part : Part) → length front ≡ length (take k ws)
-    → PartPromise E n C kept (length (front ++ drop k ws)) part → PartPromise E n C kept (length ws) part
-part-again E n C kept k ws front part e p = subst (λ m. PartPromise E n C kept m part) (lent-length k ws front e) p
+    pub part-done : (need : ℕ) (x : Bool) → need ≡ used (take k ws₁) → ValuePromise (take k ws₁) (c .0) kept x
+        → PartPromise (edge rows) (length rows) C kept (length ws) (part.Fits need x)
+    part-done need x q v = (
+      subst (Need (functions (edge rows) (length rows) C)) (sym q) (stands .need),
+      omega (arith, used-within (take k ws₁), length-take k ws₁),
+      v (stands .tree) (stands .stands) ∙ stands .is kept,
+    )
 
 -- ---- those met, and one more
 
@@ -135,35 +106,35 @@ module _ (rows : List ℕ) (kept room : ℕ) (sound : Sound rows) where
 
   module _ (v need : ℕ) (yes : Bool) (a : Asking rows kept room v need yes) where
     module _ (l : v < n) (C : ℕ) (around : Around E v C) where
-      part : Component E C × Lowest C v
-      part = walking-part C (a .walking) l around
+      met : Component E C × Lowest C v
+      met = walking-part C (a .walking) l around
 
       pub ask-component : Component E C
-      ask-component = part .0
+      ask-component = met .0
 
       module _ (words : ℕ) (same : words ≡ room) (p : Part) (told : PartPromise E n C kept words p) where
         d : PartPromise E n C kept room p
         d = subst (λ m. PartPromise E n C kept m p) same told
 
-        pub ask-full : p ≡ Exceeds → (r : Refusal) → r .number ≡ 4 → r .place ≡ v → AskAnswer rows kept room (Refused r)
+        pub ask-full : p ≡ part.Exceeds → (r : Refusal) → r .number ≡ 4 → r .place ≡ v → AskAnswer rows kept room (Refused r)
         ask-full e r q w =
             let x = subst (PartPromise E n C kept room) e d in
-            let m = met-more (a .walking .next) l (part .0) (part .1) (a .walking .met) in (
+            let m = met-more (a .walking .next) l (met .0) (met .1) (a .walking .met) in (
               q,
               record {
                 parts = a .Cs ++ a .Ds;
                 are = a .walking .met .all;
                 excess =
                     subst (λ Fs. Excess E n room (a .Cs ++ Fs) (r .place)) (sym (m .1))
-                    (excess-after E n room (a .Cs) (C ∷ m .0) need (r .place) (a .fit) (x .0, x .1, inl (x .2, subst (Lowest C) (sym w) (part .1))));
+                    (excess-after E n room (a .Cs) (C ∷ m .0) need (r .place) (a .fit) (x .0, x .1, inl (x .2, subst (Lowest C) (sym w) (met .1))));
               },
             )
 
-        pub ask-next : (k : ℕ) (x : Bool) (need′ : ℕ) (yes′ : Bool) (after : ℕ) → p ≡ Fits k x
+        pub ask-next : (k : ℕ) (x : Bool) (need′ : ℕ) (yes′ : Bool) (after : ℕ) → p ≡ part.Fits k x
             → ((need < k) × (need′ ≡ k)) ⊎ ((k ≤ need) × (need′ ≡ need)) → ((x ≡ true) × (yes′ ≡ true)) ⊎ ((x ≡ false) × (yes′ ≡ yes))
             → NextComponent E n (v + 1) after → Asking rows kept room after need′ yes′
         ask-next k x need′ yes′ after e larger either next =
-            let m = walking-more (a .walking) l (part .0) (part .1) next in
+            let m = walking-more (a .walking) l (met .0) (met .1) next in
             record {
               Cs = a .Cs ++ (C ∷ []);
               Ds = m .0;
@@ -178,7 +149,7 @@ module _ (rows : List ℕ) (kept room : ℕ) (sound : Sound rows) where
             fits = subst (PartPromise E n C kept room) e d
 
             one : T x ↔ Loop (inside E C) (bit kept)
-            one = subst (λ z. T z ↔ Loop (inside E C) (bit kept)) (sym (fits .2)) (cycle-loop (sound-below rows sound) (part .0) kept)
+            one = subst (λ z. T z ↔ Loop (inside E C) (bit kept)) (sym (fits .2)) (cycle-loop (sound-below rows sound) (met .0) kept)
 
             forth : T yes′ → (D : ℕ) × Of D (a .Cs ++ (C ∷ [])) × Loop (inside E D) (bit kept)
             forth t =
@@ -206,27 +177,6 @@ module _ (rows : List ℕ) (kept room : ℕ) (sound : Sound rows) where
 
       pub ask-no : yes ≡ false → AskAnswer rows kept room (No need)
       ask-no e = (answered, λ k. subst T e (holds .1 k))
-
--- ---- the part of the node room that counts: at most m words of it
-
-pub front-long : (m : ℕ) (ws : List ℕ) → m < length ws → m ≡ length (take m ws)
-front-long m ws l = sym (length-take-le m ws (omega arith))
-
-module _ (m : ℕ) (rows : List ℕ) (kept : ℕ) (ws : List ℕ) (r : Asked) where
-  pub ask-front : (front : List ℕ) → m < length ws → length front ≡ length (take m ws) → AskAnswer rows kept (length (take m ws)) r
-      → AskAnswer rows kept (min (length ws) m) r × (drop m (front ++ drop m ws) ≡ drop m ws)
-  ask-front front l e a =
-      let f : m ≡ length (take m ws) = front-long m ws l in
-      let k : length (take m ws) ≡ min (length ws) m = omega arith in (
-        subst (λ c. AskAnswer rows kept c r) k a,
-        drop-append-le m front (drop m ws) (omega arith) ∙ ap (λ xs. xs ++ drop m ws) (drop-of-length-le front {i = m} (omega arith)),
-      )
-
-  pub ask-whole : (ws′ : List ℕ) → length ws ≤ m → length ws′ ≡ length ws → AskAnswer rows kept (length ws) r
-      → AskAnswer rows kept (min (length ws) m) r × (drop m ws′ ≡ drop m ws)
-  ask-whole ws′ l e a =
-      let k : length ws ≡ min (length ws) m = omega arith in
-      (subst (λ c. AskAnswer rows kept c r) k a, drop-of-length-le ws′ {i = m} (omega arith) ∙ sym (drop-of-length-le ws l))
 
 -- ---- the whole answer
 
@@ -264,13 +214,14 @@ module _ (rows : List ℕ) (kept : ℕ) (nodes memo : List ℕ) (ch : Checked) (
         let f : first (askLines rows kept) ≡ some (record { number = 9; place = 0 }) = nine ∙ ap (λ x. pick x (some (record { number = 9; place = 0 })) none) t in
         subst (λ o. promised o (Refused (record { number = 9; place = 0 })) nodes memo) (sym f) (refl, refl, refl)
 
-    pub ask-answered : leb (2 ^ length rows) kept ≡ false → (k : ℕ) → k ≡ kept → (r : Asked) (nodes₁ memo₁ nodes₂ memo₂ : List ℕ)
-        → AskAnswer rows k (capacity nodes) r × (drop 65536 nodes₁ ≡ drop 65536 nodes) → length nodes₁ ≡ length nodes → length memo₁ ≡ length memo
-        → nodes₂ ≡ emptied nodes₁ → memo₂ ≡ zeroed memo₁ → AskPromise rows kept nodes memo r nodes₂ memo₂
-    ask-answered t k same r nodes₁ memo₁ nodes₂ memo₂ a l m p q =
+    -- the first n words of the node room were lent: those that count
+    pub ask-answered : leb (2 ^ length rows) kept ≡ false → (k : ℕ) → k ≡ kept → (r : Asked) (n : ℕ) (front nodes′ memo₁ memo′ : List ℕ) → n ≡ capacity nodes
+        → length front ≡ length (take n nodes) → AskAnswer rows k (length (take n nodes)) r → length memo₁ ≡ length memo
+        → nodes′ ≡ emptied (front ++ drop n nodes) → memo′ ≡ zeroed memo₁ → AskPromise rows kept nodes memo r nodes′ memo′
+    ask-answered t k same r n front nodes′ memo₁ memo′ c l a m p q =
         let f : first (askLines rows kept) ≡ none = nine ∙ ap (λ x. pick x (some (record { number = 9; place = 0 })) none) t in
-        subst (λ o. promised o r nodes₂ memo₂) (sym f) (
-          subst (λ z. AskAnswer rows z (capacity nodes) r) same (a .0),
-          p ∙ ap₂ (λ n xs. replicate (min n 65536) 0 ++ xs) l (a .1),
-          q ∙ ap (λ n. replicate n 0) m,
+        subst (λ o. promised o r nodes′ memo′) (sym f) (
+          subst (λ j. AskAnswer rows kept j r) (sym (front-length nodes n c) ∙ c) (subst (λ z. AskAnswer rows z (length (take n nodes)) r) same a),
+          p ∙ lent-emptied nodes front n c l,
+          q ∙ ap (λ j. replicate j 0) m,
         )

@@ -30,7 +30,7 @@ use Rattle.nodes.proofs.Standing.{stands-good}
 use Rattle.nodes.proofs.Remembering.{memo-zero}
 use Rattle.cycles.specs.Passes.{each, ors, F, result, passes, listed, cycle, functions}
 use Rattle.cycles.specs.declared.search.Order.{Order}
-use Rattle.cycles.specs.Work.{Searched, Code, Shows, Holding, Added, Beyond, Lacking, Makes, Summable, anyOf, orsOf, Summed, variablesOf, VariablesPromise, backIn, passAt, listedBefore, Ready, Ended, PassesPromise, Buildable, BuildPromise}
+use Rattle.cycles.specs.Work.{Searched, Code, Shows, Holding, Added, Beyond, Lacking, Makes, Summable, anyOf, orsOf, Summed, variablesOf, VariablesPromise, backIn, passAt, listedBefore, Ready, Ended, PassesPromise, Buildable, TooSmall, BuildPromise}
 use Rattle.cycles.proofs.Searches.{member-lt, back-lt}
 use Rattle.cycles.proofs.Stops.{component-need-stops, cycle-stops, functions-stop}
 use Rattle.cycles.proofs.Models.{needOf, need-of, cycleT, cycle-is, cycle-fine}
@@ -94,14 +94,14 @@ module _ (rows : List ℕ) (C : ℕ) (sound : Sound rows) (comp : Component (edg
   -- ---- the room is too small
 
   -- some of the listed functions need more than there is
-  beyond-build : (m : ℕ) (L : List (ℕ → Bool)) → Within L (functions E n C) → Beyond m L → (k : ℕ) × Need (functions E n C) k × (m < k)
+  beyond-build : (m : ℕ) (L : List (ℕ → Bool)) → Within L (functions E n C) → Beyond m L → TooSmall E n C m
   beyond-build m L w b =
       let e : b .count ≤ needOf E n C =
       need-within (b .part) (functions E n C) (b .count) (needOf E n C) (λ f q. w f (b .within f q)) (b .need) (need-of low comp) in
       (needOf E n C, need-of low comp, omega (arith, b .more))
 
-  lacking-build : {ws ws′ : List ℕ} {L : List (ℕ → Bool)} → Holding ws [] → Within L (functions E n C) → Lacking ws ws′ L → BuildPromise E n C ws ws′ Full
-  lacking-build {ws} {ws′} {L} h w l = (l .size, beyond-build (length ws) L w (l .beyond [] h))
+  lacking-build : {ws ws′ : List ℕ} {L : List (ℕ → Bool)} → Holding ws [] → Within L (functions E n C) → Lacking ws ws′ L → BuildPromise E n C ws′ Full
+  lacking-build {ws} {ws′} {L} h w l = subst (TooSmall E n C) (sym (l .size)) (beyond-build (length ws) L w (l .beyond [] h))
 
   -- ---- enough passes
 
@@ -137,7 +137,7 @@ module _ (rows : List ℕ) (C : ℕ) (sound : Sound rows) (comp : Component (edg
     begin-table = empty .room .table
 
     module _ (ws₁ codes : List ℕ) (x : Bool) (v : VariablesPromise ws ws₁ codes C x) where
-      pub variables-full : x ≡ false → BuildPromise E n C ws ws₁ Full
+      pub variables-full : x ≡ false → BuildPromise E n C ws₁ Full
       variables-full e =
           lacking-build empty (λ f m. early-in 0 (omega arith) f (Of-left f (variablesOf C) (listedBefore rows C 0) m))
           (subst (VariablesPromise ws ws₁ codes C) e v)
@@ -164,7 +164,7 @@ module _ (rows : List ℕ) (C : ℕ) (sound : Sound rows) (comp : Component (edg
 
         module _ (ws₂ ms₂ codes₂ : List ℕ) (y : Bool)
             (f : (rows : List ℕ) (C : ℕ) → Ready rows C 0 ws₁ ms order sources codes (replicate 64 1) → PassesPromise rows C ws₁ ws₂ ms₂ codes₂ y) where
-          pub passes-full : y ≡ false → BuildPromise E n C ws ws₂ Full
+          pub passes-full : y ≡ false → BuildPromise E n C ws₂ Full
           passes-full e =
               let r = subst (PassesPromise rows C ws₁ ws₂ ms₂ codes₂) e (f rows C first-ready) in
               lacking-build empty (early-in (r .0) (r .1)) (lacking-more (vars .0) (r .2))
@@ -181,7 +181,7 @@ module _ (rows : List ℕ) (C : ℕ) (sound : Sound rows) (comp : Component (edg
                 subst (Summable ws₂ ms₂ codes₂) (sym (s .back))
                 (record { table = passed .1 .added .table; memo = passed .1 .memo; long = l; given = passAt rows C i; shown = passed .1 .last })
 
-            pub build-done : (ws₃ ms₃ : List ℕ) (r : Made) → Summed ws₂ ws₃ ms₃ codes₂ (number (order .back)) r → BuildPromise E n C ws ws₃ r
+            pub build-done : (ws₃ ms₃ : List ℕ) (r : Made) → Summed ws₂ ws₃ ms₃ codes₂ (number (order .back)) r → BuildPromise E n C ws₃ r
             build-done ws₃ ms₃ r q = go r (made .made (passAt rows C i) (passed .1 .last))
               where
                 made : Summed ws₂ ws₃ ms₃ codes₂ B r
@@ -190,21 +190,19 @@ module _ (rows : List ℕ) (C : ℕ) (sound : Sound rows) (comp : Component (edg
                 so-far : Added ws ws₂ (variablesOf C ++ listedBefore rows C i)
                 so-far = added-more (vars .0) (passed .1 .added)
 
-                go : (r : Made) → Makes ws₂ ws₃ (orsOf B (passAt rows C i)) (anyOf B (passAt rows C i)) r → BuildPromise E n C ws ws₃ r
-                go (At c) m = (
-                  all .grows .size,
-                  record {
-                    table = all .table;
-                    tree = code .tree;
-                    stands = code .stands;
-                    ordered = good .ordered;
-                    under = subst (Under n) (sym same) (cycle-fine low comp (ones B) .under);
-                    is = value;
-                    need =
-                        enough-need i (passed .1 .within) (passed .1 .enough) (used ws₃)
-                        (subst (λ L. Need L (used ws₃)) (listed-are i) (holding-need (all .holds [] empty)));
-                  },
-                )
+                go : (r : Made) → Makes ws₂ ws₃ (orsOf B (passAt rows C i)) (anyOf B (passAt rows C i)) r → BuildPromise E n C ws₃ r
+                go (At c) m =
+                    record {
+                      table = all .table;
+                      tree = code .tree;
+                      stands = code .stands;
+                      ordered = good .ordered;
+                      under = subst (Under n) (sym same) (cycle-fine low comp (ones B) .under);
+                      is = value;
+                      need =
+                          enough-need i (passed .1 .within) (passed .1 .enough) (used ws₃)
+                          (subst (λ L. Need L (used ws₃)) (listed-are i) (holding-need (all .holds [] empty)));
+                    }
                   where
                     all : Added ws ws₃ (variablesOf C ++ listedBefore rows C i ++ orsOf B (passAt rows C i))
                     all = added-more so-far (m .0)

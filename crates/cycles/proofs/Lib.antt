@@ -17,6 +17,7 @@ pub mod Settles
 pub mod Passing
 pub mod Rounds
 pub mod Builds
+pub mod Parts
 pub mod Picks
 pub mod Fits
 pub mod Asks

@@ -22,7 +22,9 @@ use Rattle.nodes.specs.declared.Made.{Made}
 use Rattle.nodes.specs.declared.Made.the-variants.{At, Full}
 use Rattle.cycles.specs.Search.{Visits, finish, mark, backOf}
 use Rattle.cycles.specs.declared.Part.{Part}
-use Rattle.cycles.specs.declared.Part.the-variants.{Fits, Exceeds}
+use Rattle.cycles.specs.declared.Part.the-variants as part
+use Rattle.cycles.specs.declared.making.Built.{Built}
+use Rattle.cycles.specs.declared.making.Built.the-variants.{Within, Exceeds}
 use Rattle.cycles.specs.declared.search.Order.{Order}
 use Rattle.cycles.specs.declared.search.Visited.{Visited}
 use Rattle.cycles.specs.Passes.{any, each, joined, ors, F, atFlop, passes, cycle, functions}
@@ -289,11 +291,19 @@ pub record BuiltAt (E : ℕ → ℕ → Bool) (n C : ℕ) (ws : List ℕ) (c : �
   pub is : (K : ℕ) → eval tree K ≡ cycle E n C K
   pub need : Need (functions E n C) (used ws)
 
-abbrev pub BuildPromise : (ℕ → ℕ → Bool) → ℕ → ℕ → List ℕ → List ℕ → Made → Type 0
-BuildPromise E n C ws ws′ (At c) = (length ws′ ≡ length ws) × BuiltAt E n C ws′ (c .0)
-BuildPromise E n C ws ws′ Full = (length ws′ ≡ length ws) × ((k : ℕ) × Need (functions E n C) k × (length ws < k))
+abbrev pub TooSmall : (ℕ → ℕ → Bool) → ℕ → ℕ → ℕ → Type 0
+TooSmall E n C room = (k : ℕ) × Need (functions E n C) k × (room < k)
+
+abbrev pub BuildPromise : (ℕ → ℕ → Bool) → ℕ → ℕ → List ℕ → Made → Type 0
+BuildPromise E n C ws (At c) = BuiltAt E n C ws (c .0)
+BuildPromise E n C ws Full = TooSmall E n C (length ws)
+
+-- the same, in a part of the room
+abbrev pub ComponentPromise : (ℕ → ℕ → Bool) → ℕ → ℕ → List ℕ → Built → Type 0
+ComponentPromise E n C ws (Within k c) = (k ≤ length ws) × BuiltAt E n C (take k ws) (c .0)
+ComponentPromise E n C ws Exceeds = TooSmall E n C (length ws)
 
 -- what is said of one component where `kept` are kept: its need, at most the room, and the value of its cycle function; or that its need exceeds the room
 abbrev pub PartPromise : (ℕ → ℕ → Bool) → ℕ → ℕ → ℕ → ℕ → Part → Type 0
-PartPromise E n C kept room (Fits k holds) = Need (functions E n C) k × (k ≤ room) × (holds ≡ cycle E n C kept)
-PartPromise E n C kept room Exceeds = (k : ℕ) × Need (functions E n C) k × (room < k)
+PartPromise E n C kept room (part.Fits k holds) = Need (functions E n C) k × (k ≤ room) × (holds ≡ cycle E n C kept)
+PartPromise E n C kept room part.Exceeds = TooSmall E n C room

@@ -3,23 +3,21 @@ mod making;
 mod search;
 mod tables;
 
-ghost use mathlib.Core.Path.{_≡_};
 ghost use Prim.Native.Nat.{_≤_};
-ghost use lib.ListN.{length, drop};
+ghost use lib.ListN.{length};
 ghost use Rattle.masks.specs.Sets.{number};
 ghost use Rattle.graphs.specs.Graph.{edge};
 ghost use Rattle.graphs.specs.Components.{Component};
 ghost use Rattle.graphs.specs.Work.{Sound};
-ghost use Rattle.nodes.specs.Rooms.{capacity};
 ghost use Rattle.cycles.specs.Promise.{AskAnswer, AskPromise};
 ghost use Rattle.cycles.specs.Work.{PartPromise};
 use graphs::Checked;
 use graphs::Refusal;
-pub use making::build;
-pub use making::first_words;
+pub use making::Built;
+pub use making::build_component;
 use masks::Mask;
 use masks::Vertex;
-use nodes::Made;
+use nodes::MEMO;
 pub use search::Order;
 pub use search::search_component;
 pub use search::sources;
@@ -53,31 +51,20 @@ pub fn ask(rows: &[u64], kept: u64, nodes: &mut [u64], memo: &mut [u64]) -> Aske
             place: 0,
         });
     }
-    let answer = ask_room(rows, keep, nodes, memo);
+    let words = nodes::capacity(nodes);
+    let answer = ask_memo(rows, keep, &mut nodes[..words], memo);
     nodes::empty(nodes);
     nodes::clear(memo);
     answer
 }
 
-// In the part of the node room that counts. The rest is left alone.
-fn ask_room(rows: &[u64], kept: Mask, nodes: &mut [u64], memo: &mut [u64]) -> Asked
-    requires { ⌜ Sound (now rows) ⌝ }
-    ensures { λ r. ⌜ AskAnswer (now (rows .entry)) (number kept) (capacity (now (nodes .entry))) r
-        × (drop 65536 (now (nodes .exit)) ≡ drop 65536 (now (nodes .entry))) ⌝ }
-{
-    if 65536 < nodes.len() {
-        return ask_memo(rows, kept, &mut nodes[..65536], memo);
-    }
-    ask_memo(rows, kept, nodes, memo)
-}
-
-// With a memo that is long enough: where the lent one is short, a local one takes its place.
+// In the part of the node room that counts, with a memo that is long enough: where the lent one is short, a local one takes its place.
 fn ask_memo(rows: &[u64], kept: Mask, nodes: &mut [u64], memo: &mut [u64]) -> Asked
     requires { ⌜ Sound (now rows) × (length (now nodes) ≤ 65536) ⌝ }
     ensures { λ r. ⌜ AskAnswer (now (rows .entry)) (number kept) (length (now (nodes .entry))) r ⌝ }
 {
-    if memo.len() < 4096 {
-        let mut own = [0u64; 4096];
+    if memo.len() < MEMO {
+        let mut own = [0u64; MEMO];
         return ask_block(rows, kept, nodes, &mut own);
     }
     ask_block(rows, kept, nodes, memo)
@@ -121,33 +108,15 @@ fn ask_block(rows: &[u64], kept: Mask, nodes: &mut [u64], memo: &mut [u64]) -> A
     Asked::No(need)
 }
 
-// One component, in a part of the rooms where that is enough.
+// One component: its need, and the value of its cycle function.
 fn ask_part(rows: &[u64], members: Mask, kept: Mask, nodes: &mut [u64], memo: &mut [u64]) -> Part
     requires { ⌜ Sound (now rows) × Component (edge (now rows)) (number members) × (length (now nodes) ≤ 65536) ⌝ }
     ensures { λ r. ⌜ PartPromise (edge (now (rows .entry))) (length (now (rows .entry))) (number members) (number kept) (length (now (nodes .entry))) r ⌝ }
 {
-    let room = first_words(members, nodes.len());
-    if nodes.len() <= room {
-        return ask_in(rows, members, kept, nodes, memo);
-    }
-    let memory = first_words(members, memo.len());
-    let part = ask_in(rows, members, kept, &mut nodes[..room], &mut memo[..memory]);
-    if let Part::Fits(used, holds) = part {
-        return Part::Fits(used, holds);
-    }
-    ask_in(rows, members, kept, nodes, memo)
-}
-
-// One component in the emptied room: "the node room is emptied before each".
-fn ask_in(rows: &[u64], members: Mask, kept: Mask, nodes: &mut [u64], memo: &mut [u64]) -> Part
-    requires { ⌜ Sound (now rows) × Component (edge (now rows)) (number members) × (length (now nodes) ≤ 65536) ⌝ }
-    ensures { λ r. ⌜ PartPromise (edge (now (rows .entry))) (length (now (rows .entry))) (number members) (number kept) (length (now (nodes .entry))) r ⌝ }
-{
-    nodes::clear(nodes);
-    nodes::clear(memo);
-    let made = build(rows, members, nodes, memo);
-    let Made::At(function) = made else {
+    let built = build_component(rows, members, nodes, memo);
+    let Built::Within(words, function) = built else {
         return Part::Exceeds;
     };
-    Part::Fits(nodes::used(nodes), nodes::value(nodes, function, kept))
+    let room = &nodes[..words];
+    Part::Fits(nodes::used(room), nodes::value(room, function, kept))
 }

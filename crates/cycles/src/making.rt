@@ -6,9 +6,11 @@ ghost use lib.Dec.{T};
 ghost use lib.ListN.{length};
 ghost use Rattle.masks.specs.Sets.{bit, number};
 ghost use Rattle.graphs.specs.Graph.{edge};
+ghost use Rattle.graphs.specs.Components.{Component};
+ghost use Rattle.graphs.specs.Work.{Sound};
 ghost use Rattle.nodes.specs.Codes.{Table};
 ghost use Rattle.cycles.specs.Work.{Summable, Summed, isVariable, Multiplied, VariablesPromise, Settling};
-ghost use Rattle.cycles.specs.Work.{Ready, PassPromise, PassesPromise, Buildable, BuildPromise};
+ghost use Rattle.cycles.specs.Work.{Ready, PassPromise, PassesPromise, Buildable, BuildPromise, ComponentPromise};
 use super::search::Order;
 use super::search::search_component;
 use super::search::sources;
@@ -19,31 +21,62 @@ use masks::Vertex;
 use nodes::Made;
 use nodes::Node;
 
+// The cycle function of a component: in the first so many words of the node room, of which exactly the need is in use; or its need exceeds the room.
+pub enum Built {
+    Within(usize, Node),
+    Exceeds,
+}
+
+// The cycle function of a component, in a part of the rooms where that is enough. What they held matters not: "the node room is emptied before each".
+pub fn build_component(rows: &[u64], members: Mask, nodes: &mut [u64], memo: &mut [u64]) -> Built
+    requires { ⌜ Sound (now rows) × Component (edge (now rows)) (number members) × (length (now nodes) ≤ 65536) ⌝ }
+    ensures { λ r. ⌜ ComponentPromise (edge (now (rows .entry))) (length (now (rows .entry))) (number members) (now (nodes .exit)) r ⌝ }
+{
+    let words = first_words(members, nodes.len());
+    if nodes.len() <= words {
+        return build_in(rows, members, nodes, memo);
+    }
+    let memory = first_words(members, memo.len());
+    let built = build_in(rows, members, &mut nodes[..words], &mut memo[..memory]);
+    let Built::Exceeds = built else {
+        return built;
+    };
+    build_in(rows, members, nodes, memo)
+}
+
 // How many of a room's words to work in at first. They are enough for nearly every component of so many flip-flops; and since a room is emptied and its words
 // are counted for each component, that takes time by the component then, and not by the room.
-pub fn first_words(members: Mask, room: usize) -> usize
-    ensures { λ r. ⌜ (r ≤ room) × ((2 ≤ room) → 2 ≤ r) ⌝ }
+fn first_words(members: Mask, room: usize) -> usize
+    ensures { λ r. ⌜ r ≤ room ⌝ }
 {
     let m = members.count();
-    if room <= 4096 {
-        return room;
+    let enough = if m <= 10 {
+        4096
+    } else if m <= 16 {
+        16384
+    } else {
+        room
+    };
+    nodes::fewer(enough, room)
+}
+
+// In the whole of the lent rooms, emptied.
+fn build_in(rows: &[u64], members: Mask, nodes: &mut [u64], memo: &mut [u64]) -> Built
+    requires { ⌜ Sound (now rows) × Component (edge (now rows)) (number members) × (length (now nodes) ≤ 65536) ⌝ }
+    ensures { λ r. ⌜ ComponentPromise (edge (now (rows .entry))) (length (now (rows .entry))) (number members) (now (nodes .exit)) r ⌝ }
+{
+    nodes::clear(nodes);
+    nodes::clear(memo);
+    match build(rows, members, nodes, memo) {
+        Made::At(function) => Built::Within(nodes.len(), function),
+        Made::Full => Built::Exceeds,
     }
-    if m <= 10 {
-        return 4096;
-    }
-    if room <= 16384 {
-        return room;
-    }
-    if m <= 16 {
-        return 16384;
-    }
-    room
 }
 
 // The cycle function of a component in an empty node room, of which exactly the need is then in use; or that the room is too small.
-pub fn build(rows: &[u64], members: Mask, nodes: &mut [u64], memo: &mut [u64]) -> Made
+fn build(rows: &[u64], members: Mask, nodes: &mut [u64], memo: &mut [u64]) -> Made
     requires { ⌜ Buildable (now rows) (number members) (now nodes) (now memo) ⌝ }
-    ensures { λ r. ⌜ BuildPromise (edge (now (rows .entry))) (length (now (rows .entry))) (number members) (now (nodes .entry)) (now (nodes .exit)) r ⌝ }
+    ensures { λ r. ⌜ BuildPromise (edge (now (rows .entry))) (length (now (rows .entry))) (number members) (now (nodes .exit)) r ⌝ }
 {
     let order = search_component(rows, members);
     let from = sources(rows, members);

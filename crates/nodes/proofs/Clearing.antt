@@ -2,11 +2,11 @@
 use mathlib.Core.Path.{_≡_, refl, sym, ap, ap₂, subst, _∙_}
 use mathlib.Core.Logic.{_≢_, _⊎_, inl, inr, ⊎-elim}
 use mathlib.Core.List.{List, [], _∷_, _++_}
-use Prim.Native.Nat.{ℕ, zero, suc, _+_, _≤_, _<_}
+use Prim.Native.Nat.{ℕ, zero, suc, _+_, _≤_, _<_, min}
 use native.Mathlib.Omega.{arith}
 use native.Mathlib.Numerals.{add-one}
-use lib.ListN.{length, getD, set, take, drop, replicate, length-set, length-take, length-replicate, getD-replicate, drop-of-length-le}
-use lib.Seq.{ext-getD, getD-set-same, getD-set-other}
+use lib.ListN.{length, getD, set, take, drop, replicate, length-set, length-take, length-drop, length-append, length-replicate, getD-replicate, drop-of-length-le}
+use lib.Seq.{drop-at, ext-getD, getD-set-same, getD-set-other}
 use Rattle.nodes.specs.Rooms.{capacity, emptied, zeroed, used}
 use Rattle.nodes.proofs.Slots.{same-or, lt-or-le}
 
@@ -88,14 +88,24 @@ module _ (ws : List ℕ) (count s : ℕ) (c : Counting ws count s) where
 pub front-length : (ws : List ℕ) (n : ℕ) → n ≡ capacity ws → n ≡ length (take n ws)
 front-length ws n e = simp length-take (omega arith)
 
--- they are cleared, and the rest is not
-pub emptied-is : (ws front : List ℕ) (n : ℕ) → n ≡ capacity ws → front ≡ zeroed (take n ws) → front ++ drop n ws ≡ emptied ws
-emptied-is ws front n e f = ap₂ _++_ (f ∙ ap (λ (k : ℕ). replicate k 0) (sym (front-length ws n e) ∙ e)) (ap (λ (k : ℕ). drop k ws) e ∙ rest)
-  where
-    past : (k : ℕ) → length ws ≤ k → drop k ws ≡ []
-    past k l = drop-of-length-le ws l
+-- a room whose first k words were lent is as long as before
+pub lent-length : (k : ℕ) (ws front : List ℕ) → length front ≡ length (take k ws) → length (front ++ drop k ws) ≡ length ws
+lent-length k ws front e = length-append front (drop k ws) ∙ omega (arith, e, length-take k ws, length-drop k ws)
 
-    rest : drop (capacity ws) ws ≡ drop 65536 ws
-    rest =
-        ⊎-elim (λ l. past (capacity ws) (omega arith) ∙ sym (past 65536 (omega arith)))
-        (λ l. let e : capacity ws ≡ 65536 = omega arith in ap (λ (k : ℕ). drop k ws) e) (lt-or-le (length ws) 65536)
+-- past those that count
+past : (ws : List ℕ) (n : ℕ) → n ≡ capacity ws → drop n ws ≡ drop 65536 ws
+past ws n e =
+    ⊎-elim (λ l. drop-of-length-le ws {i = n} (omega arith) ∙ sym (drop-of-length-le ws {i = 65536} (omega arith)))
+    (λ l. let k : n ≡ 65536 = omega arith in ap (λ (i : ℕ). drop i ws) k) (lt-or-le (length ws) 65536)
+
+module _ (ws front : List ℕ) (n : ℕ) (e : n ≡ capacity ws) where
+  -- they were lent, and the room is emptied: it holds what it would have held
+  pub lent-emptied : length front ≡ length (take n ws) → emptied (front ++ drop n ws) ≡ emptied ws
+  lent-emptied f = ap₂ (λ (k : ℕ) xs. replicate (min k 65536) 0 ++ xs) same (sym (past (front ++ drop n ws) n (omega (arith, same))) ∙ drop-at front (drop n ws) n (f ∙ sym (front-length ws n e)) ∙ past ws n e)
+    where
+      same : length (front ++ drop n ws) ≡ length ws
+      same = lent-length n ws front f
+
+  -- they are cleared, and the rest is not
+  pub emptied-is : front ≡ zeroed (take n ws) → front ++ drop n ws ≡ emptied ws
+  emptied-is f = ap₂ _++_ (f ∙ ap (λ (k : ℕ). replicate k 0) (sym (front-length ws n e) ∙ e)) (past ws n e)

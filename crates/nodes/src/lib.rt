@@ -8,7 +8,7 @@ mod words;
 
 ghost use mathlib.Core.Path.{_≡_};
 ghost use mathlib.Core.Bool.{true, false};
-ghost use Prim.Native.Nat.{_<_};
+ghost use Prim.Native.Nat.{_<_, min};
 ghost use Rattle.masks.specs.Sets.{number};
 ghost use Rattle.trees.specs.Tree.{off, on, br};
 ghost use Rattle.nodes.specs.Codes.{variables, Held, Table};
@@ -27,6 +27,12 @@ use words::low_of;
 use words::pack;
 use words::variable_of;
 use words::word_at;
+
+// The most words of a node room that count.
+const MOST: usize = 65536;
+
+// The fewest words of a memo that is worth its use: in place of a shorter one, a local one of so many is used.
+pub const MEMO: usize = 4096;
 
 // A code: 0 and 1 are the constants, slot + 2 is a node.
 pub struct Node(pub u64);
@@ -92,12 +98,12 @@ fn joined(nodes: &mut [u64], memo: &mut [u64], or: bool, a: Node, b: Node) -> Ma
     requires { ⌜ Joinable (now nodes) (now memo) (a .0) (b .0) ⌝ }
     ensures { λ r. ⌜ Joined or (now (nodes .entry)) (now (nodes .exit)) (now (memo .exit)) (a .0) (b .0) r ⌝ }
 {
-    if memo.len() < 4096 {
+    if memo.len() < MEMO {
         if let Seen::Answer(r) = ends(or, a, b) {
             return Made::At(r);
         }
         // nothing is known in an empty memo; and since it is called here too, the compiler keeps `descend` apart and tells known joins without a call
-        let mut own = [0u64; 4096];
+        let mut own = [0u64; MEMO];
         return descend(nodes, &mut own, or, a, b);
     }
     join(nodes, memo, or, a, b)
@@ -158,8 +164,14 @@ pub fn used(nodes: &[u64]) -> usize
 pub fn capacity(nodes: &[u64]) -> usize
     ensures { λ r. ⌜ r ≡ rooms.capacity (now (nodes .entry)) ⌝ }
 {
-    let n = nodes.len();
-    if n < 65536 { n } else { 65536 }
+    fewer(nodes.len(), MOST)
+}
+
+// The fewer of two numbers of words.
+pub fn fewer(a: usize, b: usize) -> usize
+    ensures { λ r. ⌜ r ≡ min a b ⌝ }
+{
+    if a < b { a } else { b }
 }
 
 // Empties a room, whatever it held.

@@ -30,25 +30,25 @@ abbrev pub remaining : List ℕ → ℕ → ℕ
 remaining ws c = variables - level ws c
 
 pub holds-tree : {ws ms costs : List ℕ} {code : ℕ} → Walkable ws ms costs code → Held ws 0 code
-holds-tree w = record { tree = w .tree; stands = w .stands; ordered = w .ordered }
+holds-tree w = record { tree = w .standing .tree; stands = w .standing .stands; ordered = w .standing .ordered }
 
 -- ---- an answer for the tree is one for whatever the code stands for
 
 module _ {ws ms costs : List ℕ} {code : ℕ} (w : Walkable ws ms costs code) where
-  walked : (ms′ : List ℕ) (r : Best) → Told (costOf costs) (length costs) (w .tree) r → Memo (costOf costs) (length costs) ws ms′ → Walked ws ms′ costs code r
-  walked ms′ r t m = record { told = λ u s. subst (λ x. Told (costOf costs) (length costs) x r) (stands-one (w .stands) s) t; memo = m }
+  walked : (ms′ : List ℕ) (r : Best) → Told (costOf costs) (length costs) (w .standing .tree) r → Memo (costOf costs) (length costs) ws ms′ → Walked ws ms′ costs code r
+  walked ms′ r t m = record { told = λ u s. subst (λ x. Told (costOf costs) (length costs) x r) (stands-one (w .standing .stands) s) t; memo = m }
 
   -- ---- the ends
 
   pub walked-off : {r : Shape} (S : Mask) → r ≡ Off → LookPromise ws code r → number S ≡ 0 → Walked ws ms costs code (Set 0 S)
   walked-off S e p z =
       let q : LookPromise ws code Off = subst (LookPromise ws code) e p in
-      walked ms (Set 0 S) (rw (q (w .tree) (w .stands)) (record { set = ap some z; priced = rw z (sym (weight-none (costOf costs) (length costs))) })) (w .memo)
+      walked ms (Set 0 S) (rw (q (w .standing .tree) (w .standing .stands)) (record { set = ap some z; priced = rw z (sym (weight-none (costOf costs) (length costs))) })) (w .memo)
 
   pub walked-on : {r : Shape} → r ≡ On → LookPromise ws code r → Walked ws ms costs code Nothing
   walked-on e p =
       let q : LookPromise ws code On = subst (LookPromise ws code) e p in
-      walked ms Nothing (rw (q (w .tree) (w .stands)) (record { set = refl; priced = tt })) (w .memo)
+      walked ms Nothing (rw (q (w .standing .tree) (w .standing .stands)) (record { set = refl; priced = tt })) (w .memo)
 
   -- what is remembered
   pub walked-known : {r : Best} (k : ℕ) (S : Mask) → r ≡ Set k S → Recalled ms code r → Walked ws ms costs code (Set k S)
@@ -58,37 +58,32 @@ module _ {ws ms costs : List ℕ} {code : ℕ} (w : Walkable ws ms costs code) w
 
 -- ---- a branch
 
+-- a side of a decision over v: the code c stands for a tree of later flip-flops
+pub record Side (ws costs : List ℕ) (v c : ℕ) : Type 0 where
+  pub tree : Tree
+  pub stands : Stands ws c tree
+  pub ordered : Ordered (suc v) tree
+  pub under : Under (length costs) tree
+
 -- the code stands for a decision over v, whose branches have the codes lo and hi
 pub record Branching (ws costs : List ℕ) (code v lo hi : ℕ) : Type 0 where
-  pub low : Tree
-  pub high : Tree
-  pub whole : Stands ws code (br v low high)
-  pub at-low : Stands ws lo low
-  pub at-high : Stands ws hi high
+  pub low : Side ws costs v lo
+  pub high : Side ws costs v hi
+  pub whole : Stands ws code (br v (low .tree) (high .tree))
   pub variable : v < length costs
-  pub ordered-low : Ordered (suc v) low
-  pub ordered-high : Ordered (suc v) high
-  pub under-low : Under (length costs) low
-  pub under-high : Under (length costs) high
 
 pub branching : {ws ms costs : List ℕ} {code : ℕ} {r : Shape} {v : Vertex} {lo hi : Node} → Walkable ws ms costs code → r ≡ Branch v lo hi
     → LookPromise ws code r → Branching ws costs code (v .0) (lo .0) (hi .0)
 branching {ws} {ms} {costs} {code} {r} {v} {lo} {hi} w e p =
     let q : LookPromise ws code (Branch v lo hi) = subst (LookPromise ws code) e p in
-    let s = q (w .tree) (w .stands) in
-    let o : Ordered 0 (br (v .0) (s .0) (s .1)) = subst (Ordered 0) (s .2) (w .ordered) in
-    let u : Under (length costs) (br (v .0) (s .0) (s .1)) = subst (Under (length costs)) (s .2) (w .under) in
+    let s = q (w .standing .tree) (w .standing .stands) in
+    let o : Ordered 0 (br (v .0) (s .0) (s .1)) = subst (Ordered 0) (s .2) (w .standing .ordered) in
+    let u : Under (length costs) (br (v .0) (s .0) (s .1)) = subst (Under (length costs)) (s .2) (w .standing .under) in
     record {
-      low = s .0;
-      high = s .1;
-      whole = subst (Stands ws code) (s .2) (w .stands);
-      at-low = s .3;
-      at-high = s .4;
+      low = record { tree = s .0; stands = s .3; ordered = o .1; under = u .1 };
+      high = record { tree = s .1; stands = s .4; ordered = o .2; under = u .2 };
+      whole = subst (Stands ws code) (s .2) (w .standing .stands);
       variable = u .0;
-      ordered-low = o .1;
-      ordered-high = o .2;
-      under-low = u .1;
-      under-high = u .2;
     }
 
 level-br : {ws : List ℕ} {c v : ℕ} {l h : Tree} → Stands ws c (br v l h) → level ws c ≡ v
@@ -101,72 +96,53 @@ ordered-from b (br v l h) o = (omega arith, o .1, o .2)
 
 module _ {ws ms costs : List ℕ} {code v lo hi : ℕ} (w : Walkable ws ms costs code) (b : Branching ws costs code v lo hi) where
   pub code-small : code < 2 ^ 17
-  code-small = stands-small (w .small) (w .stands)
+  code-small = stands-small (w .standing .small) (w .standing .stands)
 
-  -- ---- down a side, with a memo that is right
+  -- ---- down a side
 
-  module _ (ms′ : List ℕ) (size : 2 ≤ length ms′) (m : Memo (costOf costs) (length costs) ws ms′) where
-    pub walk-low : Walkable ws ms′ costs lo
-    walk-low =
+  module _ {c : ℕ} (side : Side ws costs v c) where
+    -- with a memo that is right
+    pub walk-side : (ms′ : List ℕ) → 2 ≤ length ms′ → Memo (costOf costs) (length costs) ws ms′ → Walkable ws ms′ costs c
+    walk-side ms′ size m =
         record {
-          small = w .small;
-          few = w .few;
-          tree = b .low;
-          stands = b .at-low;
-          ordered = ordered-from (suc v) (b .low) (b .ordered-low);
-          under = b .under-low;
+          standing =
+              record {
+                small = w .standing .small;
+                few = w .standing .few;
+                tree = side .tree;
+                stands = side .stands;
+                ordered = ordered-from (suc v) (side .tree) (side .ordered);
+                under = side .under;
+              };
           pairs = size;
           memo = m;
         }
 
-    pub walk-high : Walkable ws ms′ costs hi
-    walk-high =
-        record {
-          small = w .small;
-          few = w .few;
-          tree = b .high;
-          stands = b .at-high;
-          ordered = ordered-from (suc v) (b .high) (b .ordered-high);
-          under = b .under-high;
-          pairs = size;
-          memo = m;
-        }
-
-  -- fewer variables remain there
-  pub falls-low : remaining ws lo < remaining ws code
-  falls-low =
-      omega (
-        arith,
-        level-br (b .whole),
-        level-above {ws = ws} {k = suc v} {c = lo} (omega (arith, b .variable, w .few)) (b .at-low) (b .ordered-low),
-        b .variable,
-        w .few,
-      )
-
-  pub falls-high : remaining ws hi < remaining ws code
-  falls-high =
-      omega (
-        arith,
-        level-br (b .whole),
-        level-above {ws = ws} {k = suc v} {c = hi} (omega (arith, b .variable, w .few)) (b .at-high) (b .ordered-high),
-        b .variable,
-        w .few,
-      )
+    -- fewer variables remain there
+    pub falls-side : remaining ws c < remaining ws code
+    falls-side =
+        omega (
+          arith,
+          level-br (b .whole),
+          level-above {ws = ws} {k = suc v} {c = c} (omega (arith, b .variable, w .standing .few)) (side .stands) (side .ordered),
+          b .variable,
+          w .standing .few,
+        )
 
   -- ---- back up: x and y are the answers for the sides
 
   -- the best set of the low side lacks v
-  pub lacks : (x : Best) → Told (costOf costs) (length costs) (b .low) x → Lacking v x
+  pub lacks : (x : Best) → Told (costOf costs) (length costs) (b .low .tree) x → Lacking v x
   lacks Nothing t = tt
   lacks (Set k S) t =
-      let a : Answer (costOf costs) (length costs) (suc v) (Frees (b .low)) (some (number S)) =
-      subst (Answer (costOf costs) (length costs) (suc v) (Frees (b .low))) (sym (t .set))
-      (best-answer (costOf costs) (length costs) (b .low) (suc v) (b .ordered-low) (b .under-low)) in
+      let a : Answer (costOf costs) (length costs) (suc v) (Frees (b .low .tree)) (some (number S)) =
+      subst (Answer (costOf costs) (length costs) (suc v) (Frees (b .low .tree))) (sym (t .set))
+      (best-answer (costOf costs) (length costs) (b .low .tree) (suc v) (b .low .ordered) (b .low .under)) in
       a .clear v (omega arith)
 
-  module _ {x y : Best} (z r : Best) (tx : Told (costOf costs) (length costs) (b .low) x) (ty : Told (costOf costs) (length costs) (b .high) y)
+  module _ {x y : Best} (z r : Best) (tx : Told (costOf costs) (length costs) (b .low .tree) x) (ty : Told (costOf costs) (length costs) (b .high .tree) y)
       (hold : (setOf z ≡ held v (setOf x)) × Priced (costOf costs) (length costs) z) (light : LighterPromise z y r) where
-    told-whole : Told (costOf costs) (length costs) (br v (b .low) (b .high)) r
+    told-whole : Told (costOf costs) (length costs) (br v (b .low .tree) (b .high .tree)) r
     told-whole =
         let f = light (costOf costs) (length costs) (hold .1) (ty .priced) in
         record {
@@ -179,7 +155,7 @@ module _ {ws ms costs : List ℕ} {code v lo hi : ℕ} (w : Walkable ws ms costs
       where
         go : (s : Best) → Priced (costOf costs) (length costs) s → Small s
         go Nothing p = tt
-        go (Set k S) p = omega (arith, weight-small costs (number S) (w .few) h)
+        go (Set k S) p = omega (arith, weight-small costs (number S) (w .standing .few) h)
 
     pub walked-whole : (ms₁ ms₂ : List ℕ) → Memo (costOf costs) (length costs) ws ms₁ → Remembered ms₁ ms₂ code r → Walked ws ms₂ costs code r
     walked-whole ms₁ ms₂ m p =

@@ -5,7 +5,7 @@ use mathlib.Core.List.{List}
 use mathlib.Core.Option.{Option, none, some}
 use Prim.Native.Nat.{ℕ, _+_, _*_, _/_, _%_, _^_, _≤_, _<_}
 use lib.Dec.{T}
-use lib.ListN.{length, getD, drop}
+use lib.ListN.{length, getD}
 use Rattle.masks.specs.Sets.{bit, number, weight}
 use Rattle.graphs.specs.Graph.{edge}
 use Rattle.graphs.specs.Light.{Lightest}
@@ -16,11 +16,9 @@ use Rattle.trees.specs.Tree.{Tree, Ordered}
 use Rattle.trees.specs.Best.{Under, lighter, best}
 use Rattle.trees.specs.Need.{Need}
 use Rattle.nodes.specs.Codes.{Stands}
-use Rattle.nodes.specs.Rooms.{capacity}
 use Rattle.cycles.specs.Passes.{functions}
 use Rattle.cycles.specs.Needs.{Answered, TooLarge}
-use Rattle.picker.specs.Promise.{costOf, PickAnswer}
-use Rattle.picker.specs.declared.Picked.{Picked}
+use Rattle.picker.specs.Promise.{costOf}
 use Rattle.picker.specs.declared.best.Best.{Best}
 use Rattle.picker.specs.declared.best.Best.the-variants.{Set, Nothing}
 use Rattle.picker.specs.declared.components.Found as sets
@@ -37,11 +35,6 @@ pub record Ready (rows costs ws ms : List ℕ) : Type 0 where
   pub even : length costs ≡ length rows
   pub small : length ws ≤ 65536
   pub pairs : 2 ≤ length ms
-
--- its answer, and the node room past what counts as it was
-pub record Picking (rows costs nodes nodes′ : List ℕ) (r : Picked) : Type 0 where
-  pub answer : PickAnswer rows costs (capacity nodes) r
-  pub past : drop 65536 nodes′ ≡ drop 65536 nodes
 
 -- ---- the lightest set by components
 
@@ -132,14 +125,18 @@ Remembered ms ms′ code r = (c : ℕ → ℕ) (n : ℕ) (ws : List ℕ) → Mem
 
 -- ---- the walk
 
--- the code stands for an ordered tree of the flip-flops that have costs, and the memo is right
-pub record Walkable (ws ms costs : List ℕ) (code : ℕ) : Type 0 where
+-- the code stands for an ordered tree of the flip-flops that have costs
+pub record Standing (ws costs : List ℕ) (code : ℕ) : Type 0 where
   pub small : length ws ≤ 65536
   pub few : length costs ≤ 64
   pub tree : Tree
   pub stands : Stands ws code tree
   pub ordered : Ordered 0 tree
   pub under : Under (length costs) tree
+
+-- and the memo is right
+pub record Walkable (ws ms costs : List ℕ) (code : ℕ) : Type 0 where
+  pub standing : Standing ws costs code
   pub pairs : 2 ≤ length ms
   pub memo : Memo (costOf costs) (length costs) ws ms
 

@@ -5,7 +5,7 @@ ghost use lib.ListN.{length};
 ghost use Rattle.masks.specs.Sets.{number};
 ghost use Rattle.trees.specs.Best as trees;
 ghost use Rattle.picker.specs.Promise.{costOf};
-ghost use Rattle.picker.specs.Work.{setOf, Priced, Lacking, Walkable, Walked, LightestPromise, LighterPromise};
+ghost use Rattle.picker.specs.Work.{setOf, Priced, Lacking, Standing, Walkable, Walked, LightestPromise, LighterPromise};
 use super::memos::recall;
 use super::memos::remember;
 use masks::Mask;
@@ -19,11 +19,21 @@ pub enum Best {
     Nothing,
 }
 
-// The lightest set of a function that is not 1 everywhere. (One that is has none.)
+// The lightest set of a function that is not 1 everywhere. (One that is has none.) The memo may hold anything; a pair of words for each code is enough of it.
 pub fn lightest(nodes: &[u64], memo: &mut [u64], function: Node, costs: &[u32]) -> Mask
-    requires { ⌜ Walkable (now nodes) (now memo) (now costs) (function .0) ⌝ }
+    requires { ⌜ Standing (now nodes) (now costs) (function .0) × (2 ≤ length (now memo)) ⌝ }
     ensures { λ r. ⌜ LightestPromise (now (nodes .entry)) (now (costs .entry)) (function .0) (number r) ⌝ }
 {
+    let words = nodes::fewer(memo.len(), 2 * nodes.len() + 4);
+    lightest_in(nodes, &mut memo[..words], function, costs)
+}
+
+// With the whole memo, emptied.
+fn lightest_in(nodes: &[u64], memo: &mut [u64], function: Node, costs: &[u32]) -> Mask
+    requires { ⌜ Standing (now nodes) (now costs) (function .0) × (2 ≤ length (now memo)) ⌝ }
+    ensures { λ r. ⌜ LightestPromise (now (nodes .entry)) (now (costs .entry)) (function .0) (number r) ⌝ }
+{
+    nodes::clear(memo);
     match best_of(nodes, memo, function, costs) {
         Best::Set(_, set) => set,
         Best::Nothing => Mask::none(),

@@ -5,14 +5,13 @@ ghost use Rattle.graphs.specs.Graph.{edge};
 ghost use Rattle.graphs.specs.Components.{Component};
 ghost use Rattle.picker.specs.Work.{Ready, PartPromise, GraphPromise};
 use super::best::lightest;
-use cycles::build;
-use cycles::first_words;
+use cycles::Built;
+use cycles::build_component;
 use graphs::component_around;
 use graphs::next_component;
 use graphs::reach_rows;
 use masks::Mask;
 use masks::Vertex;
-use nodes::Made;
 
 // The set and the largest need; or the lowest flip-flop of the first component that doesn't fit the room.
 pub enum Found {
@@ -50,7 +49,7 @@ pub fn graph_set(rows: &[u64], costs: &[u32], nodes: &mut [u64], memo: &mut [u64
     Found::Set(set, need)
 }
 
-// One component, in a part of the rooms where that is enough.
+// One component, with its need.
 fn component_set(
     rows: &[u64],
     costs: &[u32],
@@ -61,36 +60,11 @@ fn component_set(
     requires { ⌜ Ready (now rows) (now costs) (now nodes) (now memo) × Component (edge (now rows)) (number members) ⌝ }
     ensures { λ r. ⌜ PartPromise (now (rows .entry)) (now (costs .entry)) (number members) (length (now (nodes .entry))) r ⌝ }
 {
-    let room = first_words(members, nodes.len());
-    if nodes.len() <= room {
-        return set_in(rows, costs, members, nodes, memo);
-    }
-    let memory = first_words(members, memo.len());
-    let part = set_in(
-        rows,
-        costs,
-        members,
-        &mut nodes[..room],
-        &mut memo[..memory],
-    );
-    if let Found::Set(lightest, used) = part {
-        return Found::Set(lightest, used);
-    }
-    set_in(rows, costs, members, nodes, memo)
-}
-
-// One component in the emptied room, with its need.
-fn set_in(rows: &[u64], costs: &[u32], members: Mask, nodes: &mut [u64], memo: &mut [u64]) -> Found
-    requires { ⌜ Ready (now rows) (now costs) (now nodes) (now memo) × Component (edge (now rows)) (number members) ⌝ }
-    ensures { λ r. ⌜ PartPromise (now (rows .entry)) (now (costs .entry)) (number members) (length (now (nodes .entry))) r ⌝ }
-{
-    nodes::clear(nodes);
-    nodes::clear(memo);
-    let made = build(rows, members, nodes, memo);
-    let Made::At(function) = made else {
+    let built = build_component(rows, members, nodes, memo);
+    let Built::Within(words, function) = built else {
         return Found::TooLarge(Vertex(members.next_member(0)));
     };
-    nodes::clear(memo);
-    let set = lightest(nodes, memo, function, costs);
-    Found::Set(set, nodes::used(nodes))
+    let room = &nodes[..words];
+    let set = lightest(room, memo, function, costs);
+    Found::Set(set, nodes::used(room))
 }

@@ -8,12 +8,13 @@ ghost use Prim.Native.Nat.{_≤_};
 ghost use lib.ListN.{length};
 ghost use Rattle.masks.specs.Sets.{number, weight};
 ghost use Rattle.picker.specs.Promise.{costOf, PickAnswer, PickPromise};
-ghost use Rattle.picker.specs.Work.{Passes, Picking};
+ghost use Rattle.picker.specs.Work.{Passes};
 use components::Found;
 use components::graph_set;
 use graphs::Checked;
 use graphs::Refusal;
 use masks::Mask;
+use nodes::MEMO;
 use reduction::reduce;
 
 // The flip-flops to make scannable, what they cost together, and the largest need; or the refusal.
@@ -30,31 +31,21 @@ pub fn pick(rows: &[u64], costs: &[u32], nodes: &mut [u64], memo: &mut [u64]) ->
     if let Checked::Refused(refusal) = checked {
         return Picked::Refused(refusal);
     }
-    let answer = pick_room(rows, costs, nodes, memo);
+    let words = nodes::capacity(nodes);
+    let answer = pick_memo(rows, costs, &mut nodes[..words], memo);
     nodes::empty(nodes);
     nodes::clear(memo);
     answer
 }
 
-// The answer for a block that passed the checks. What the rooms held matters not, and nor does what they hold afterwards; the node room past its first
-// 65,536 words is left alone.
-fn pick_room(rows: &[u64], costs: &[u32], nodes: &mut [u64], memo: &mut [u64]) -> Picked
-    requires { ⌜ Passes (now rows) (now costs) ⌝ }
-    ensures { λ r. ⌜ Picking (now (rows .entry)) (now (costs .entry)) (now (nodes .entry)) (now (nodes .exit)) r ⌝ }
-{
-    if 65536 < nodes.len() {
-        return pick_memo(rows, costs, &mut nodes[..65536], memo);
-    }
-    pick_memo(rows, costs, nodes, memo)
-}
-
-// In the part of the node room that counts. Where the lent memo room is short, a local one takes its place.
+// In the part of the node room that counts, with a memo that is long enough: where the lent one is short, a local one takes its place. What the rooms held
+// matters not, and nor does what they hold afterwards.
 fn pick_memo(rows: &[u64], costs: &[u32], nodes: &mut [u64], memo: &mut [u64]) -> Picked
     requires { ⌜ Passes (now rows) (now costs) × (length (now nodes) ≤ 65536) ⌝ }
     ensures { λ r. ⌜ PickAnswer (now (rows .entry)) (now (costs .entry)) (length (now (nodes .entry))) r ⌝ }
 {
-    if memo.len() < 4096 {
-        let mut own = [0u64; 4096];
+    if memo.len() < MEMO {
+        let mut own = [0u64; MEMO];
         return pick_reduced(rows, costs, nodes, &mut own);
     }
     pick_reduced(rows, costs, nodes, memo)

@@ -1,4 +1,6 @@
--- `pick` meets its contract. Assumes nothing.
+-- `pick` meets its contract: the checks, the answer in the part of the room that counts, and both rooms emptied. Assumes nothing.
+use native.Mathlib.Omega.{arith}
+use Rattle.nodes.proofs.Clearing.{front-length}
 use Rattle.picker.proofs.Lending.{passes, refused, answered}
 use borrow.Author.Needs.{needs}
 use Rattle.picker.proofs.pick.Statement.{statement}
@@ -19,10 +21,22 @@ returns c =
 enum-told : tie.Need-enum-told
 enum-told c = search needs
 
-pick-room-requires : tie.Need-pick-room-requires
-pick-room-requires c κs =
-    let s = c .before .before .before .before .before .before .before .before .before in
-    passes (s .args .rows .now) (s .args .costs .now) (c .before .before .before .before .check .ensures) (c .before .before .enum-told .given .1)
+capacity-requires : tie.Need-capacity-requires
+capacity-requires c κs = search needs
+
+slice-relend-prefix-pick-memo : tie.Need-slice-relend-prefix-pick-memo
+slice-relend-prefix-pick-memo c = omega (arith, c .capacity .ensures)
+
+slice-aggregate-pick-memo : tie.Need-slice-aggregate-pick-memo
+slice-aggregate-pick-memo c = front-length (c .before .before .before .before .before .before .before .before .before .before .args .nodes .now) _ (c .before .capacity .ensures)
+
+pick-memo-requires : tie.Need-pick-memo-requires
+pick-memo-requires c κs =
+    let s = c .before .before .before .before .before .before .before .before .before .before .before in
+    let n = c .before .before .capacity .ensures in (
+      passes (s .args .rows .now) (s .args .costs .now) (c .before .before .before .before .before .before .check .ensures) (c .before .before .before .before .enum-told .given .1),
+      omega (arith, front-length (s .args .nodes .now) _ n, n),
+    )
 
 empty-requires : tie.Need-empty-requires
 empty-requires c κs = search needs
@@ -38,13 +52,13 @@ same-length-2 c = search needs
 
 returns-2 : tie.Need-returns-2
 returns-2 c =
-    let b = c .before .before .before .before .before .before .before .before .before .before .before .before in
-    let e = b .before .before .before in
-    let s = e .before .before .before .before .before .before .before in
-    let r = b .pick-room in
-    answered (s .args .rows .now) (s .args .costs .now) (e .before .before .check .ensures) (s .args .nodes .now) (s .args .memo .now) (r .result)
-    (r .last .1 .1 .0) (r .last .1 .1 .1 .0) _ _ (e .enum-told .given .1) (r .ensures) (r .kept .1 .1 .0) (r .kept .1 .1 .1 .0)
-    (c .before .before .before .before .before .before .empty .ensures) (c .before .before .clear .ensures)
+    let picked = c .before .before .before .before .before .before .before .before .before .before .before .before in
+    let r = picked .pick-memo in
+    let told = picked .before .before .before .before .before in
+    let s = told .before .before .before .before .before .before .before in
+    answered (s .args .rows .now) (s .args .costs .now) (told .before .before .check .ensures) (s .args .nodes .now) (s .args .memo .now) (r .result) _
+    (r .last .1 .1 .0) _ (r .last .1 .1 .1 .0) _ (told .enum-told .given .1) (picked .before .before .before .capacity .ensures) (r .kept .1 .1 .0) (r .ensures)
+    (r .kept .1 .1 .1 .0) (c .before .before .before .before .before .before .empty .ensures) (c .before .before .clear .ensures)
 
 pub pick-spec : {M : Type 1} → statement M
 pick-spec =
@@ -54,7 +68,10 @@ pick-spec =
     enum-known-checked
     returns
     enum-told
-    pick-room-requires
+    capacity-requires
+    slice-relend-prefix-pick-memo
+    slice-aggregate-pick-memo
+    pick-memo-requires
     empty-requires
     clear-requires
     same-length

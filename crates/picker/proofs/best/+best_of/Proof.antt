@@ -7,7 +7,7 @@ use borrow.Fn.PlainCycle.{Measures, is, falls, and}
 use Rattle.masks.proofs.Mask.none.Reads as none-reads
 use Rattle.nodes.proofs.look.Reads as look-reads
 use Rattle.picker.proofs.Walking.{remaining, holds-tree, walked-off, walked-on, walked-known, Branching, branching}
-use Rattle.picker.proofs.Walking.{code-small, walk-low, walk-high, falls-low, falls-high, lacks, small-whole, walked-whole}
+use Rattle.picker.proofs.Walking.{code-small, walk-side, falls-side, lacks, small-whole, walked-whole}
 use Rattle.picker.proofs.best.best_of.Reads as best-of
 use Rattle.picker.proofs.best.best_of.Kinds as best-of-kinds
 use Rattle.picker.proofs.best.+best_of.Lts-best_of as best-of-lts
@@ -97,26 +97,26 @@ best-of-best-of-requires : (t : ℕ) → best-of-lts.Need-best-of-requires (call
 best-of-best-of-requires t c κs =
     let d = c .before .before .before .before .before in
     let s = start t d in
-    let f = falls-low (s .pre .1) (branch t d) in
+    let f = falls-side (s .pre .1) (branch t d) (branch t d .low) in
     let m = s .pre .0 in
-    (omega arith, walk-low (s .pre .1) (branch t d) _ (s .pre .1 .pairs) (s .pre .1 .memo))
+    (omega arith, walk-side (s .pre .1) (branch t d) (branch t d .low) _ (s .pre .1 .pairs) (s .pre .1 .memo))
 
 best-of-held-requires : (t : ℕ) → best-of-lts.Need-held-requires (callees t) (best-of-at t) best-of.Post
 best-of-held-requires t c κs =
     let d = c .before .before .before .before .before .before .before .before in
     let w = start t d .pre .1 in
     let b = branch t d in
-    let x = c .before .before .best-of .ensures .told (b .low) (b .at-low) in
-    ((b .variable, w .few), (x .priced, lacks w b _ x))
+    let x = c .before .before .best-of .ensures .told (b .low .tree) (b .low .stands) in
+    ((b .variable, w .standing .few), (x .priced, lacks w b _ x))
 
 best-of-best-of-requires-2 : (t : ℕ) → best-of-lts.Need-best-of-requires-2 (callees t) (best-of-at t) best-of.Post
 best-of-best-of-requires-2 t c κs =
     let d = c .before .before .before .before .before .before .before .before .before .before in
     let s = start t d in
     let x = c .before .before .before .before .best-of in
-    let f = falls-high (s .pre .1) (branch t d) in
+    let f = falls-side (s .pre .1) (branch t d) (branch t d .high) in
     let m = s .pre .0 in
-    (omega arith, walk-high (s .pre .1) (branch t d) _ (omega (arith, s .pre .1 .pairs, x .kept .1 .0)) (x .ensures .memo))
+    (omega arith, walk-side (s .pre .1) (branch t d) (branch t d .high) _ (omega (arith, s .pre .1 .pairs, x .kept .1 .0)) (x .ensures .memo))
 
 best-of-lighter-requires : (t : ℕ) → best-of-lts.Need-lighter-requires (callees t) (best-of-at t) best-of.Post
 best-of-lighter-requires t c κs = search needs
@@ -139,8 +139,8 @@ best-of-remember-requires t c κs =
     let known = here t d .before .before .before .before .shared-slice-known2 .given in (
       omega (arith, s .pre .1 .pairs, x .kept .1 .0, y .kept .1 .0),
       code-small (s .pre .1) b,
-      small-whole (s .pre .1) b (d .before .before .before .before .before .held .result) (d .lighter .result) (x .ensures .told (b .low) (b .at-low))
-          (y .ensures .told (b .high) (b .at-high)) (d .before .before .before .before .before .held .ensures) (d .lighter .ensures) (λ u. known u .fits),
+      small-whole (s .pre .1) b (d .before .before .before .before .before .held .result) (d .lighter .result) (x .ensures .told (b .low .tree) (b .low .stands))
+          (y .ensures .told (b .high .tree) (b .high .stands)) (d .before .before .before .before .before .held .ensures) (d .lighter .ensures) (λ u. known u .fits),
     )
 
 best-of-returns-2 : (t : ℕ) → best-of-lts.Need-returns-2 (callees t) (best-of-at t) best-of.Post
@@ -163,8 +163,8 @@ best-of-returns-4 t c =
     let x = d .before .before .before .before .before .before .before .before .best-of in
     let y = d .before .before .before .best-of2 in
     let b = branch t (here t d) in
-    walked-whole (s .pre .1) b (d .before .before .before .before .before .held .result) (d .lighter .result) (x .ensures .told (b .low) (b .at-low))
-    (y .ensures .told (b .high) (b .at-high)) (d .before .before .before .before .before .held .ensures) (d .lighter .ensures) (y .last .1 .0)
+    walked-whole (s .pre .1) b (d .before .before .before .before .before .held .result) (d .lighter .result) (x .ensures .told (b .low .tree) (b .low .stands))
+    (y .ensures .told (b .high .tree) (b .high .stands)) (d .before .before .before .before .before .held .ensures) (d .lighter .ensures) (y .last .1 .0)
     (c .before .before .remember .last .0) (y .ensures .memo) (c .before .before .remember .ensures)
 
 pub +best-of-spec : {M : Type 1} → statement M

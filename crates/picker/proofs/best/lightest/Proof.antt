@@ -1,42 +1,48 @@
--- `lightest` meets its contract. Assumes nothing.
-use Rattle.picker.proofs.Walking.{found-set, found-nothing}
+-- `lightest` meets its contract: the part of the memo that it takes has two words too. Assumes nothing.
+use mathlib.Core.Path.{sym}
+use native.Mathlib.Omega.{arith}
+use lib.ListN.{length-take}
+use lib.Seq.{length-take-le}
 use borrow.Author.Needs.{needs}
 use Rattle.picker.proofs.best.lightest.Statement.{statement}
 use Rattle.picker.proofs.best.lightest.Tie as tie
 
-best-of-requires : tie.Need-best-of-requires
-best-of-requires c κs = search needs
+mul-fewer : tie.Need-mul-fewer
+mul-fewer c = search needs
 
-enum-known-set : tie.Need-enum-known-set
-enum-known-set c = search needs
+add-fewer : tie.Need-add-fewer
+add-fewer c = search needs
 
-enum-told : tie.Need-enum-told
-enum-told c = search needs
+fewer-requires : tie.Need-fewer-requires
+fewer-requires c κs = search needs
 
-none-requires : tie.Need-none-requires
-none-requires c κs = search needs
+slice-relend-prefix-lightest-in : tie.Need-slice-relend-prefix-lightest-in
+slice-relend-prefix-lightest-in c = search needs
+
+slice-aggregate-lightest-in : tie.Need-slice-aggregate-lightest-in
+slice-aggregate-lightest-in c = sym (length-take-le _ _ (omega (arith, c .before .fewer .ensures)))
+
+lightest-in-requires : tie.Need-lightest-in-requires
+lightest-in-requires c κs =
+    let start = c .before .before .before .before .before in
+    let n = c .before .fewer in
+    (start .pre .0, omega (arith, length-take (n .result) (start .args .memo .now), n .ensures, start .pre .1))
 
 same-length : tie.Need-same-length
 same-length c = search needs
 
 returns : tie.Need-returns
-returns c t S s e = found-set (c .before .before .before .before .before .best-of .ensures) t S s e _ _ (c .before .set .given .1)
-
-same-length-2 : tie.Need-same-length-2
-same-length-2 c = search needs
-
-returns-2 : tie.Need-returns-2
-returns-2 c t S s e = absurd (found-nothing (c .before .before .before .before .before .best-of .ensures) t S s e (c .before .enum-told .given .1))
+returns c = search needs
 
 pub lightest-spec : {M : Type 1} → statement M
 lightest-spec =
     tie.close
     (tie.spec
-    best-of-requires
-    enum-known-set
-    enum-told
-    none-requires
+    mul-fewer
+    add-fewer
+    fewer-requires
+    slice-relend-prefix-lightest-in
+    slice-aggregate-lightest-in
+    lightest-in-requires
     same-length
-    returns
-    same-length-2
-    returns-2)
+    returns)

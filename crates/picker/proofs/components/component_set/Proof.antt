@@ -1,17 +1,22 @@
--- `component_set` meets its contract: what fits a part of the room fits the room. Assumes nothing.
-use mathlib.Core.Path.{sym}
-use lib.Seq.{length-take-le}
-use Rattle.masks.specs.Sets.{number}
-use Rattle.picker.proofs.OneComponent.{ready-part, ready-again, part-wider, part-again}
+-- `component_set` meets its contract: the walk finds the lightest set where the cycle function stands, and the words in use there are the need. Assumes nothing.
+use native.Mathlib.Omega.{arith}
+use Rattle.cycles.proofs.Parts.{part-built, part-words}
+use Rattle.picker.proofs.OneComponent.{standing, part-right, part-too-large}
 use borrow.Author.Needs.{needs}
 use Rattle.picker.proofs.components.component_set.Statement.{statement}
 use Rattle.picker.proofs.components.component_set.Tie as tie
 
-first-words-requires : tie.Need-first-words-requires
-first-words-requires c κs = search needs
+build-component-requires : tie.Need-build-component-requires
+build-component-requires c κs = search needs
 
-set-in-requires : tie.Need-set-in-requires
-set-in-requires c κs = search needs
+enum-known-built : tie.Need-enum-known-built
+enum-known-built c = search needs
+
+enum-told : tie.Need-enum-told
+enum-told c = search needs
+
+next-member-requires : tie.Need-next-member-requires
+next-member-requires c κs = search needs
 
 same-length : tie.Need-same-length
 same-length c = search needs
@@ -20,30 +25,31 @@ same-length-2 : tie.Need-same-length-2
 same-length-2 c = search needs
 
 returns : tie.Need-returns
-returns c = search needs
+returns c =
+    let start = c .before .before .before .before .before .before .before .before .before .before .before .before .before .before in
+    let b = c .before .before .before .before .before .before .before .build-component in
+    part-too-large (start .pre .0) (start .pre .1) (b .last .1 .1 .0) (b .kept .1 .1 .0) (b .ensures) _ (c .before .enum-told .given .1) (c .next-member .ensures)
 
-first-words-requires-2 : tie.Need-first-words-requires-2
-first-words-requires-2 c κs = search needs
+slice-reshare-prefix-room : tie.Need-slice-reshare-prefix-room
+slice-reshare-prefix-room c =
+    let b = c .before .before .before .before .before .before .before .build-component in
+    part-built _ _ _ (b .last .1 .1 .0) (b .result) (b .ensures) _ _ (c .before .built .given .1) .0
 
-slice-relend-prefix-set-in : tie.Need-slice-relend-prefix-set-in
-slice-relend-prefix-set-in c = search needs
+slice-aggregate-room : tie.Need-slice-aggregate-room
+slice-aggregate-room c =
+    let b = c .before .before .before .before .before .before .before .before .build-component in
+    part-words _ _ _ (b .last .1 .1 .0) (b .result) (b .ensures) _ _ (c .before .before .built .given .1)
 
-slice-aggregate-set-in : tie.Need-slice-aggregate-set-in
-slice-aggregate-set-in c = sym (length-take-le _ _ (c .before .before .before .first-words .ensures .0))
+lightest-requires : tie.Need-lightest-requires
+lightest-requires c κs =
+    let start = c .before .before .before .before .before .before .before .before .before .before .before .before .before .before .before .before in
+    let b = c .before .before .before .before .before .before .before .before .before .build-component in (
+      standing (start .pre .0) (start .pre .1) (b .last .1 .1 .0) (b .kept .1 .1 .0) (b .ensures) _ _ (c .before .before .before .built .given .1),
+      omega (arith, start .pre .0 .pairs, b .kept .1 .1 .1 .0),
+    )
 
-slice-relend-prefix-set-in-2 : tie.Need-slice-relend-prefix-set-in-2
-slice-relend-prefix-set-in-2 c = search needs
-
-slice-aggregate-set-in-2 : tie.Need-slice-aggregate-set-in-2
-slice-aggregate-set-in-2 c = sym (length-take-le _ _ (c .before .before .first-words2 .ensures .0))
-
-set-in-requires-2 : tie.Need-set-in-requires-2
-set-in-requires-2 c κs =
-    let start = c .before .before .before .before .before .before .before .before .before in
-    (ready-part (start .pre .0) (c .before .before .before .before .first-words .result) (c .before .before .first-words2 .result) (c .before .before .first-words2 .ensures .1), start .pre .1)
-
-enum-known-part : tie.Need-enum-known-part
-enum-known-part c = search needs
+used-requires : tie.Need-used-requires
+used-requires c κs = search needs
 
 same-length-3 : tie.Need-same-length-3
 same-length-3 c = search needs
@@ -53,56 +59,26 @@ same-length-4 c = search needs
 
 returns-2 : tie.Need-returns-2
 returns-2 c =
-    let a = c .before .before .before .before .before .before .before .before .before .before .before .before .before .before .before .before .before .args in
-    part-wider (a .rows .now) (a .costs .now) (number (a .members)) (c .before .before .before .before .before .before .before .before .before .before .before .before .first-words .result) (a .nodes .now) _ _ (c .before .part .given .1)
-    (c .before .before .before .before .before .before .before .set-in2 .ensures)
-
-enum-told : tie.Need-enum-told
-enum-told c = search needs
-
-set-in-requires-3 : tie.Need-set-in-requires-3
-set-in-requires-3 c κs =
-    let start = c .before .before .before .before .before .before .before .before .before .before .before .before .before .before .before .before .before .before in
-    let first = c .before .before .before .before .before .before .before .before .set-in2 in (
-      ready-again (start .pre .0) (c .before .before .before .before .before .before .before .before .before .before .before .before .before .first-words .result) (c .before .before .before .before .before .before .before .before .before .before .before .first-words2 .result) (first .last .1 .1 .1 .0) (first .last .1 .1 .1 .1 .0)
-          (first .kept .1 .1 .1 .0) (first .kept .1 .1 .1 .1 .0),
-      start .pre .1,
-    )
-
-same-length-5 : tie.Need-same-length-5
-same-length-5 c = search needs
-
-same-length-6 : tie.Need-same-length-6
-same-length-6 c = search needs
-
-returns-3 : tie.Need-returns-3
-returns-3 c =
-    let a = c .before .before .before .before .before .before .before .before .before .before .before .before .before .before .before .before .before .before .before .before .before .before .before .args in
-    let first = c .before .before .before .before .before .before .before .before .before .before .before .before .before .set-in2 in
-    part-again (a .rows .now) (a .costs .now) (number (a .members)) (c .before .before .before .before .before .before .before .before .before .before .before .before .before .before .before .before .before .before .first-words .result) (a .nodes .now) (first .last .1 .1 .1 .0)
-    (c .before .before .before .before .set-in3 .result) (first .kept .1 .1 .1 .0) (c .before .before .before .before .set-in3 .ensures)
+    let start = c .before .before .before .before .before .before .before .before .before .before .before .before .before .before .before .before .before .before .before .before in
+    let b = c .before .before .before .before .before .before .before .before .before .before .before .before .before .build-component in
+    part-right (start .pre .0) (start .pre .1) (b .last .1 .1 .0) (b .kept .1 .1 .0) (b .ensures) _ _ (c .before .before .before .before .before .before .before .built .given .1) _ _
+    (c .before .before .before .lightest .ensures) (c .used .ensures)
 
 pub component-set-spec : {M : Type 1} → statement M
 component-set-spec =
     tie.close
     (tie.spec
-    first-words-requires
-    set-in-requires
+    build-component-requires
+    enum-known-built
+    enum-told
+    next-member-requires
     same-length
     same-length-2
     returns
-    first-words-requires-2
-    slice-relend-prefix-set-in
-    slice-aggregate-set-in
-    slice-relend-prefix-set-in-2
-    slice-aggregate-set-in-2
-    set-in-requires-2
-    enum-known-part
+    slice-reshare-prefix-room
+    slice-aggregate-room
+    lightest-requires
+    used-requires
     same-length-3
     same-length-4
-    returns-2
-    enum-told
-    set-in-requires-3
-    same-length-5
-    same-length-6
-    returns-3)
+    returns-2)
