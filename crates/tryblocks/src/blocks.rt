@@ -62,136 +62,61 @@ pub fn pairs() -> [u64; 64] {
 }
 
 // Blocks in which the last of k passes still changes a member of B. B is a chain, cut into groups of four, each with a cheap flip-flop x in front (0, 5, 10
-// ..): it leads to the first of its group, and all of the group lead back to it, the first to the x before. With every x left out there is no loop, but the
-// walk along the chain passes all of B. One pass fewer finds a loop there, and takes a member of B too.
-pub const ALL_PASSES_16: [u64; 20] = [
-    0x6,
-    0x5,
-    0x9,
-    0x11,
-    0x61,
-    0x40,
-    0x81,
-    0x120,
-    0x220,
-    0xc20,
-    0x800,
-    0x1020,
-    0x2400,
-    0x4400,
-    0x18400,
-    0x10000,
-    0x20400,
-    0x48000,
-    0x88000,
-    0x8000,
-];
+// ..). With every x left out there is no loop, but the walk along the chain passes all of B. One pass fewer finds a loop there, and takes a member of B too.
+pub struct Priced {
+    pub rows: [u64; 64],
+    pub costs: [u32; 64],
+}
 
-pub const COSTS_16: [u32; 20] = [
-    2,
-    1,
-    115,
-    114,
-    113,
-    2,
-    112,
-    111,
-    110,
-    109,
-    2,
-    108,
-    107,
-    106,
-    105,
-    2,
-    104,
-    103,
-    102,
-    1,
-];
+pub fn chain(n: usize) -> Priced
+    requires { ⌜ n ≤ 62 ⌝ }
+{
+    let mut rows = [0u64; 64];
+    let mut costs = [0u32; 64];
+    let mut v = 0;
+    while v < n {
+        chain_row(v, n).set_row(&mut rows, Vertex(v));
+        costs[v] = chain_cost(v, n);
+        v += 1;
+    }
+    Priced { rows, costs }
+}
 
-pub const ALL_PASSES_32: [u64; 40] = [
-    0x6,
-    0x5,
-    0x9,
-    0x11,
-    0x61,
-    0x40,
-    0x81,
-    0x120,
-    0x220,
-    0xc20,
-    0x800,
-    0x1020,
-    0x2400,
-    0x4400,
-    0x18400,
-    0x10000,
-    0x20400,
-    0x48000,
-    0x88000,
-    0x308000,
-    0x200000,
-    0x408000,
-    0x900000,
-    0x1100000,
-    0x6100000,
-    0x4000000,
-    0x8100000,
-    0x12000000,
-    0x22000000,
-    0xc2000000,
-    0x80000000,
-    0x102000000,
-    0x240000000,
-    0x440000000,
-    0x1840000000,
-    0x1000000000,
-    0x2040000000,
-    0x4800000000,
-    0x8800000000,
-    0x800000000,
-];
+// Each leads to the next. The last of a group also leads past the next x, on along the chain, and 0 to 2. Each of B leads back to an x. No edge leads out of
+// the block.
+fn chain_row(v: usize, n: usize) -> Mask
+    requires { ⌜ (v < n) × (n ≤ 62) ⌝ }
+{
+    let mut row = Mask::none().put(Vertex(v + 1));
+    if v == 0 || v % 5 == 4 {
+        row = row.put(Vertex(v + 2));
+    }
+    if v % 5 != 0 {
+        row = row.put(Vertex(back(v)));
+    }
+    row.meet(Mask::below(n))
+}
 
-pub const COSTS_32: [u32; 40] = [
-    2,
-    1,
-    131,
-    130,
-    129,
-    2,
-    128,
-    127,
-    126,
-    125,
-    2,
-    124,
-    123,
-    122,
-    121,
-    2,
-    120,
-    119,
-    118,
-    117,
-    2,
-    116,
-    115,
-    114,
-    113,
-    2,
-    112,
-    111,
-    110,
-    109,
-    2,
-    108,
-    107,
-    106,
-    105,
-    2,
-    104,
-    103,
-    102,
-    1,
-];
+// The x of v's group, or, where v is the first of its group, the x before that one, if there is any.
+fn back(v: usize) -> usize
+    requires { ⌜ v < 64 ⌝ }
+    ensures { λ r. ⌜ r < 64 ⌝ }
+{
+    if v < 2 {
+        return 0;
+    }
+    (v - 2) / 5 * 5
+}
+
+// 2 for an x and 1 for each end of B. Any other of B costs 100 and the number of members from there to the end of B: 102 is the least.
+fn chain_cost(v: usize, n: usize) -> u32
+    requires { ⌜ (v < n) × (n ≤ 62) ⌝ }
+{
+    if v % 5 == 0 {
+        return 2;
+    }
+    if v == 1 || v + 1 == n {
+        return 1;
+    }
+    (101 + n - n / 5 - v + v / 5) as u32
+}

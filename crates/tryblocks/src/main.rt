@@ -2,11 +2,8 @@
 mod blocks;
 
 ghost use Prim.Native.Nat.{_≤_};
-use blocks::ALL_PASSES_16;
-use blocks::ALL_PASSES_32;
-use blocks::COSTS_16;
-use blocks::COSTS_32;
 use blocks::all_edges;
+use blocks::chain;
 use blocks::pairs;
 use blocks::ring;
 use graphs::Refusal;
@@ -39,36 +36,21 @@ fn dense() {
     try_first(name, 17, all_edges(17), [1u32; 64], 65536, 65536);
 }
 
-// Blocks in which the last of k passes still changes a member of B.
+// Blocks in which the last of k passes still changes a member of B: of 20 flip-flops 16 are in B, of 40 32.
 fn all_passes() {
-    try_pick(
-        b"16 passes, room 1046",
-        &ALL_PASSES_16,
-        &COSTS_16,
-        1046,
-        4096,
-    );
-    try_pick(
-        b"16 passes, room 1045",
-        &ALL_PASSES_16,
-        &COSTS_16,
-        1045,
-        4096,
-    );
-    try_pick(
-        b"32 passes, room 5401",
-        &ALL_PASSES_32,
-        &COSTS_32,
-        5401,
-        4096,
-    );
-    try_pick(
-        b"32 passes, room 5400",
-        &ALL_PASSES_32,
-        &COSTS_32,
-        5400,
-        4096,
-    );
+    try_chain(b"16 passes, room 1046", 20, 1046);
+    try_chain(b"16 passes, room 1045", 20, 1045);
+    try_chain(b"32 passes, room 5401", 40, 5401);
+    try_chain(b"32 passes, room 5400", 40, 5400);
+}
+
+fn try_chain(name: &[u8], n: usize, room: usize)
+    requires { ⌜ (n ≤ 62) × (room ≤ 65536) ⌝ }
+{
+    let block = chain(n);
+    let rows = block.rows;
+    let costs = block.costs;
+    try_first(name, n, rows, costs, room, 4096);
 }
 
 fn far_costs() {
