@@ -17,6 +17,7 @@ use Rattle.masks.proofs.Members.{cut-gone, cut-same, cut-other, cut-lt}
 use Rattle.graphs.specs.Graph.{edge, plainFrom, plain, Of, Differ, Walk, edge-to, step-to, Chain, Loop}
 use Rattle.graphs.specs.Light.{left, Meets}
 use Rattle.graphs.specs.Components.{every}
+use Rattle.graphs.proofs.Lists.{of?}
 
 module _ (E : ℕ → ℕ → Bool) (K : ℕ → Bool) where
   -- ---- a loop is a closed walk
@@ -37,15 +38,6 @@ module _ (E : ℕ → ℕ → Bool) (K : ℕ → Bool) where
       (l .first, chain-walk (l .first) (l .rest) (l .first) (chain-kept (l .first) (l .rest) (l .first) (l .chain) (l .first) (inl refl)) (l .chain))
 
   -- ---- a closed walk has a loop: cut it at the first flip-flop that comes twice
-
-  of? : (a : ℕ) (xs : List ℕ) → Dec (Of a xs)
-  of? a [] = no (λ h. h)
-  of? a (x ∷ xs) = go (ℕ-discrete a x) (of? a xs)
-    where
-      go : Dec (a ≡ x) → Dec (Of a xs) → Dec ((a ≡ x) ⊎ Of a xs)
-      go (yes e) d = yes (inl e)
-      go (no k) (yes h) = yes (inr h)
-      go (no k) (no h) = no (⊎-elim k h)
 
   -- the part of a chain before the first `a`
   record Before (u a : ℕ) (xs : List ℕ) : Type 0 where

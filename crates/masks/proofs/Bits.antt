@@ -116,13 +116,21 @@ digit-nought m v h =
     let k : digit m v ≢ 1 = λ e. true≢false (sym (bit-true m v e) ∙ h) in
     omega (arith, digit-lt m v)
 
--- a bit is 0 or 1, as the digit is: cases
-bit-digit : (a b v w : ℕ) → bit a v ≡ bit b w → digit a v ≡ digit b w
-bit-digit a b v w e = go (bit b w) refl
+-- a digit and its bit are 1 and true, or 0 and false: what holds of both pairs holds of them
+by-digit : (P : ℕ → Bool → Type 0) → P 1 true → P 0 false → (m v : ℕ) → P (digit m v) (bit m v)
+by-digit P p q m v = go (bit m v) refl
   where
-    go : (x : Bool) → bit b w ≡ x → digit a v ≡ digit b w
-    go true f = digit-one a v (e ∙ f) ∙ sym (digit-one b w f)
-    go false f = digit-nought a v (e ∙ f) ∙ sym (digit-nought b w f)
+    go : (x : Bool) → bit m v ≡ x → P (digit m v) x
+    go true e = rw (digit-one m v e) p
+    go false e = rw (digit-nought m v e) q
+
+by-digits : (P : ℕ → ℕ → Bool → Bool → Type 0) → P 1 1 true true → P 1 0 true false → P 0 1 false true → P 0 0 false false → (a b v : ℕ)
+    → P (digit a v) (digit b v) (bit a v) (bit b v)
+by-digits P p q r s a b v =
+    by-digit (λ i x. P i (digit b v) x (bit b v)) (by-digit (λ j y. P 1 j true y) p q b v) (by-digit (λ j y. P 0 j false y) r s b v) a v
+
+bit-digit : (a b v w : ℕ) → bit a v ≡ bit b w → digit a v ≡ digit b w
+bit-digit a b v w = by-digit (λ i x. bit a v ≡ x → digit a v ≡ i) (digit-one a v) (digit-nought a v) b w
 
 digit-bit : (a b v w : ℕ) → digit a v ≡ digit b w → bit a v ≡ bit b w
 digit-bit a b v w e = bit-of-digit a v ∙ ap (λ x. eqb x 1) e ∙ sym (bit-of-digit b w)
@@ -181,22 +189,14 @@ unfolding digit
 digit-and a b v = rw (and-shr a b v, and-step (a / 2 ^ v) (b / 2 ^ v)) (omega arith)
 
 pub bit-or : (a b v : ℕ) → bit (bitOr a b) v ≡ (bit a v || bit b v)
-bit-or a b v = bit-of-digit (bitOr a b) v ∙ ap (λ x. eqb x 1) (digit-or a b v) ∙ go (bit a v) (bit b v) refl refl
-  where
-    go : (x y : Bool) → bit a v ≡ x → bit b v ≡ y → eqb (max (digit a v) (digit b v)) 1 ≡ (bit a v || bit b v)
-    go true true e f = cc (digit-one a v e, digit-one b v f)
-    go true false e f = cc (digit-one a v e, digit-nought b v f)
-    go false true e f = cc (digit-nought a v e, digit-one b v f)
-    go false false e f = cc (digit-nought a v e, digit-nought b v f)
+bit-or a b v =
+    bit-of-digit (bitOr a b) v ∙ ap (λ x. eqb x 1) (digit-or a b v)
+    ∙ by-digits (λ i j x y. eqb (max i j) 1 ≡ (x || y)) refl refl refl refl a b v
 
 pub bit-and : (a b v : ℕ) → bit (bitAnd a b) v ≡ (bit a v && bit b v)
-bit-and a b v = bit-of-digit (bitAnd a b) v ∙ ap (λ x. eqb x 1) (digit-and a b v) ∙ go (bit a v) (bit b v) refl refl
-  where
-    go : (x y : Bool) → bit a v ≡ x → bit b v ≡ y → eqb (min (digit a v) (digit b v)) 1 ≡ (bit a v && bit b v)
-    go true true e f = cc (digit-one a v e, digit-one b v f)
-    go true false e f = cc (digit-one a v e, digit-nought b v f)
-    go false true e f = cc (digit-nought a v e, digit-one b v f)
-    go false false e f = cc (digit-nought a v e, digit-nought b v f)
+bit-and a b v =
+    bit-of-digit (bitAnd a b) v ∙ ap (λ x. eqb x 1) (digit-and a b v)
+    ∙ by-digits (λ i j x y. eqb (min i j) 1 ≡ (x && y)) refl refl refl refl a b v
 
 -- ---- the first j bits from one number, the others from another
 
@@ -243,11 +243,9 @@ digit-comp (suc n) S (suc v) h l =
     rw (digit-suc (2 ^ suc n - 1 - S) v, digit-suc S v, e) (digit-comp n (S / 2) v (omega arith) (omega arith))
 
 pub comp-bit : (n S v : ℕ) → S < 2 ^ n → v < n → bit (2 ^ n - 1 - S) v ≡ not (bit S v)
-comp-bit n S v h l = go (bit S v) refl
-  where
-    go : (x : Bool) → bit S v ≡ x → bit (2 ^ n - 1 - S) v ≡ not (bit S v)
-    go true e = bit-false _ v (omega (arith, digit-comp n S v h l, digit-one S v e)) ∙ ap not (sym e)
-    go false e = bit-true _ v (omega (arith, digit-comp n S v h l, digit-nought S v e)) ∙ ap not (sym e)
+comp-bit n S v h l =
+    by-digit (λ i x. digit (2 ^ n - 1 - S) v + i ≡ 1 → bit (2 ^ n - 1 - S) v ≡ not x) (λ e. bit-false _ v (omega arith)) (λ e. bit-true _ v (omega arith)) S v
+    (digit-comp n S v h l)
 
 -- ---- members, as tests
 

@@ -169,31 +169,22 @@ got (br v l h) b o s (inr k) = ⊎-elim (λ i. low (got l (suc v) (o .1) s i)) (
     lo : b ≤ v
     lo = o .0
 
+    -- on side t, by a way that takes that side at v and from there on is the way in t
+    side : (t : Tree) → Ordered (suc v) t → (g : Got (suc v) t s) (way : ℕ) → way < 2 ^ g .upto → fixed (g .upto) way (br v l h) ≡ fixed (g .upto) way t
+        → ((w : ℕ) → suc v ≤ w → bit way w ≡ bit (g .way) w) → Got b (br v l h) s
+    side t ot g way small down same =
+        let p : suc v ≤ g .upto = g .past in
+        record { upto = g .upto; way = way; past = omega (arith, lo); small = small; is = down ∙ fixed-cong (g .upto) way (g .way) t (suc v) ot same ∙ g .is }
+
     low : Got (suc v) l s → Got b (br v l h) s
     low g =
-        let p : suc v ≤ g .upto = g .past in
-        record {
-          upto = g .upto;
-          way = cut (g .way) v;
-          past = omega (arith, lo);
-          small = cut-lt (g .upto) (g .way) v (g .small);
-          is =
-              fixed-low (g .upto) (cut (g .way) v) v l h p (cut-same (g .way) v)
-              ∙ fixed-cong (g .upto) (cut (g .way) v) (g .way) l (suc v) (o .1) (λ w i. cut-other (g .way) v w (omega arith)) ∙ g .is;
-        }
+        side l (o .1) g (cut (g .way) v) (cut-lt (g .upto) (g .way) v (g .small))
+        (fixed-low (g .upto) (cut (g .way) v) v l h (g .past) (cut-same (g .way) v)) (λ w i. cut-other (g .way) v w (omega arith))
 
     high : Got (suc v) h s → Got b (br v l h) s
     high g =
-        let p : suc v ≤ g .upto = g .past in
-        record {
-          upto = g .upto;
-          way = put (g .way) v;
-          past = omega (arith, lo);
-          small = put-lt (g .upto) (g .way) v (g .small) p;
-          is =
-              fixed-high (g .upto) (put (g .way) v) v l h p (put-same (g .way) v)
-              ∙ fixed-cong (g .upto) (put (g .way) v) (g .way) h (suc v) (o .2) (λ w i. put-other (g .way) v w (omega arith)) ∙ g .is;
-        }
+        side h (o .2) g (put (g .way) v) (put-lt (g .upto) (g .way) v (g .small) (g .past))
+        (fixed-high (g .upto) (put (g .way) v) v l h (g .past) (put-same (g .way) v)) (λ w i. put-other (g .way) v w (omega arith))
 
 -- ---- the need of trees
 
