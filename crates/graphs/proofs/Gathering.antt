@@ -1,7 +1,7 @@
 -- Those of a set whose rows hold v, gathered member by member; and the edges of a member inside its component. Assumes nothing.
 use mathlib.Core.Path.{_≡_, refl, sym, ap, _∙_, subst}
 use mathlib.Core.Logic.{_↔_}
-use mathlib.Core.Bool.{Bool, true, false, not, _&&_}
+use mathlib.Core.Bool.{Bool, true, false, not, _&&_, and-false, and-comm}
 use mathlib.Core.List.{List}
 use Prim.Native.Nat.{ℕ, _+_, _≤_, _<_}
 use native.Mathlib.Omega.{arith}
@@ -68,12 +68,8 @@ module _ (rows : List ℕ) (among v : ℕ) where
   pub gather-all : (u found : ℕ) → length rows ≤ 64 → 64 ≤ u → Gathering rows among v u found → (w : ℕ) → bit found w ≡ holds rows among v w
   gather-all u found few l g = gathered-all (holds rows among v) u found past (g .those)
     where
-      none : (x : Bool) → (x && false) ≡ false
-      none true = refl
-      none false = refl
-
       past : (w : ℕ) → u ≤ w → holds rows among v w ≡ false
-      past w i = rw (List·getD-eq-default rows 0 {n = w} (omega arith), bit-zero v) (none (bit among w))
+      past w i = rw (List·getD-eq-default rows 0 {n = w} (omega arith), bit-zero v) (and-false (bit among w))
 
 -- ---- the edges of a member inside its component
 
@@ -82,20 +78,10 @@ pub inner-bits : (rows : List ℕ) (C v : ℕ) → T (bit C v) → (row met r : 
 unfolding edge
 inner-bits rows C v t row met r isRow isMet isR w = ap (λ x. bit x w) isR ∙ go (ℕ-discrete w v)
   where
-    swap : (x y : Bool) → (x && y) ≡ (y && x)
-    swap true true = refl
-    swap true false = refl
-    swap false true = refl
-    swap false false = refl
-
-    gone : (x y : Bool) → false ≡ (x && (false && y))
-    gone true y = refl
-    gone false y = refl
-
     go : Dec (w ≡ v) → bit (cut met v) w ≡ ((bit C v && bit C w) && (not (eqb v w) && bit (getD rows v 0) w))
-    go (yes q) = rw (q, cut-same met v, eq-eqb v v refl) (gone (bit C v && bit C v) (bit (getD rows v 0) v))
+    go (yes q) = rw (q, cut-same met v, eq-eqb v v refl) (sym (and-false (bit C v && bit C v)))
     go (no k) =
-        rw (cut-other met v w k, isMet, bit-and row C w, isRow, ne-eqb v w (λ z. k (sym z)), T-true (bit C v) t) (swap (bit (getD rows v 0) w) (bit C w))
+        rw (cut-other met v w k, isMet, bit-and row C w, isRow, ne-eqb v w (λ z. k (sym z)), T-true (bit C v) t) (and-comm (bit (getD rows v 0) w) (bit C w))
 
 -- ---- those that v reaches and is reached by
 

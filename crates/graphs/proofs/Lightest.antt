@@ -65,12 +65,6 @@ as-light-trans c n S R Q (inl p) (inr q) = inl (omega arith)
 as-light-trans c n S R Q (inr p) (inl q) = inl (omega arith)
 as-light-trans c n S R Q (inr p) (inr q) = inr (omega arith, omega arith)
 
-pub lighter-trans : (c : ℕ → ℕ) (n S R Q : ℕ) → Lighter c n S R → Lighter c n R Q → Lighter c n S Q
-lighter-trans c n S R Q (inl p) (inl q) = inl (omega arith)
-lighter-trans c n S R Q (inl p) (inr q) = inl (omega arith)
-lighter-trans c n S R Q (inr p) (inl q) = inl (omega arith)
-lighter-trans c n S R Q (inr p) (inr q) = inr (omega arith, omega arith)
-
 pub as-light-lighter : (c : ℕ → ℕ) (n S R Q : ℕ) → AsLight c n S R → Lighter c n R Q → AsLight c n S Q
 as-light-lighter c n S R Q p q = as-light-trans c n S R Q p (lighter-as-light c n R Q q)
 

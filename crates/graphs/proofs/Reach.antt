@@ -2,12 +2,12 @@
 -- number of flip-flops taken, over walks whose inner ones are among them. Assumes nothing.
 use mathlib.Core.Path.{_≡_, refl, sym, ap, _∙_, subst}
 use mathlib.Core.Logic.{_⊎_, inl, inr, ⊎-elim, _↔_, Iff·trans}
-use mathlib.Core.Bool.{Bool, true, false, _&&_, _||_}
+use mathlib.Core.Bool.{Bool, true, false, _&&_, _||_, or-false}
 use mathlib.Core.List.{List, map}
-use Prim.Native.Nat.{ℕ, zero, suc, _<_, _^_}
+use Prim.Native.Nat.{ℕ, zero, suc, _<_}
 use native.Mathlib.Omega.{arith}
 use native.Mathlib.Decide.{ℕ-discrete, map-dec}
-use lib.Bits.{bitOr, or-lt}
+use lib.Bits.{bitOr}
 use lib.Dec.{T}
 use lib.ListN.{length, getD, length-map, List·getD-map}
 use Rattle.masks.specs.Sets.{bit, pick}
@@ -50,13 +50,9 @@ through-row k rows u = ap (getD (map f rows) u) (sym none) ∙ List·getD-map f 
 pub through-arc : (k : ℕ) (rows : List ℕ) (u w : ℕ) → arc (through k rows) u w ≡ (arc rows u w || (arc rows u k && arc rows k w))
 through-arc k rows u w = ap (λ r. bit r w) (through-row k rows u) ∙ go (arc rows u k)
   where
-    or-false : (x : Bool) → x ≡ (x || false)
-    or-false true = refl
-    or-false false = refl
-
     go : (x : Bool) → bit (pick x (bitOr (getD rows u 0) (getD rows k 0)) (getD rows u 0)) w ≡ (arc rows u w || (x && arc rows k w))
     go true = bit-or (getD rows u 0) (getD rows k 0) w
-    go false = or-false (arc rows u w)
+    go false = sym (or-false (arc rows u w))
 
 -- ---- walks whose inner flip-flops are below k
 
@@ -142,20 +138,11 @@ edge-reaches rows u w = Iff·trans (rw plain-length at (reaches (plain rows) u w
     to-arc : (a b : ℕ) → T (edge rows a b) → T (arc (plain rows) a b)
     to-arc a b = subst T (edge-plain rows a b)
 
--- its rows are as many, and fit where the rows do
+-- its rows are as many
 pub closure-length : (k : ℕ) (rows : List ℕ) → length (closure k rows) ≡ length rows
 unfolding closure
 closure-length zero rows = refl
 closure-length (suc k) rows = through-length k (closure k rows) ∙ closure-length k rows
-
-pub closure-lt : (k n : ℕ) (rows : List ℕ) → ((v : ℕ) → getD rows v 0 < 2 ^ n) → (v : ℕ) → getD (closure k rows) v 0 < 2 ^ n
-unfolding closure
-closure-lt zero n rows h v = h v
-closure-lt (suc k) n rows h v = rw through-row (go (arc (closure k rows) v k) (closure-lt k n rows h v) (closure-lt k n rows h k))
-  where
-    go : (x : Bool) {a b : ℕ} → a < 2 ^ n → b < 2 ^ n → pick x (bitOr a b) a < 2 ^ n
-    go true {a} {b} p q = or-lt n a b p q
-    go false p q = p
 
 -- ---- in any graph whose edges go out of flip-flops below n
 

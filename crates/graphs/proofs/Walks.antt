@@ -10,10 +10,6 @@ pub start-kept : {E : ℕ → ℕ → Bool} {K : ℕ → Bool} {a b : ℕ} → W
 start-kept (edge-to k l e) = k
 start-kept (step-to k e p) = k
 
-pub end-kept : {E : ℕ → ℕ → Bool} {K : ℕ → Bool} {a b : ℕ} → Walk E K a b → T (K b)
-end-kept (edge-to k l e) = l
-end-kept (step-to k e p) = end-kept p
-
 -- where every edge goes out of (into) a flip-flop below n, a walk starts (ends) below n
 pub source-lt : {E : ℕ → ℕ → Bool} {K : ℕ → Bool} {n a b : ℕ} → ((u w : ℕ) → T (E u w) → u < n) → Walk E K a b → a < n
 source-lt {a = a} {b = b} h (edge-to k l e) = h a b e

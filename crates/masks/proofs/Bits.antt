@@ -2,7 +2,7 @@
 -- to a member. Shown by induction on the digit, with the powers of two as unknowns. Assumes nothing.
 use mathlib.Core.Path.{_≡_, refl, sym, ap, _∙_, subst}
 use mathlib.Core.Logic.{_≢_, _↔_}
-use mathlib.Core.Bool.{Bool, true, false, not, _&&_, _||_, true≢false}
+use mathlib.Core.Bool.{Bool, true, false, not, _&&_, _||_, true≢false, or-assoc as test-assoc}
 use Prim.Native.Nat.{ℕ, zero, suc, _+_, _-_, _*_, _/_, _%_, _^_, _≤_, _<_, max, min}
 use native.Mathlib.Omega.{arith}
 use native.Mathlib.Nat.{pow-suc, div-one, mul-assoc, mul-comm, add-comm}
@@ -289,9 +289,5 @@ not-zero x h = subst T (bit-zero x) h
 pub or-assoc : (a b c : ℕ) → bitOr (bitOr a b) c ≡ bitOr a (bitOr b c)
 or-assoc a b c = same-members (bitOr (bitOr a b) c) (bitOr a (bitOr b c)) (λ v. (subst T (bits v), subst T (sym (bits v))))
   where
-    group : (x y z : Bool) → ((x || y) || z) ≡ (x || (y || z))
-    group true y z = refl
-    group false y z = refl
-
     bits : (v : ℕ) → bit (bitOr (bitOr a b) c) v ≡ bit (bitOr a (bitOr b c)) v
-    bits v = rw (bit-or (bitOr a b) c v, bit-or a b v, bit-or a (bitOr b c) v, bit-or b c v) (group (bit a v) (bit b v) (bit c v))
+    bits v = rw (bit-or (bitOr a b) c v, bit-or a b v, bit-or a (bitOr b c) v, bit-or b c v) (test-assoc (bit a v) (bit b v) (bit c v))

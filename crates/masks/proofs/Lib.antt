@@ -6,7 +6,6 @@ pub mod Lowest
 pub mod Nexts
 pub mod Those
 pub mod Weights
-pub mod Order
 pub mod Counts
 pub mod Words
 pub mod Numbers

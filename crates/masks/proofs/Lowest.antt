@@ -20,12 +20,6 @@ unfolding lowest
 lowest-none zero p f = refl
 lowest-none (suc n) p f = rw (f 0 (omega arith)) (ap suc (lowest-none n (λ w. p (suc w)) (λ w k. f (suc w) (omega arith))))
 
--- the lowest of two tests that agree
-pub lowest-ext : (n : ℕ) (p q : ℕ → Bool) → ((w : ℕ) → w < n → p w ≡ q w) → lowest n p ≡ lowest n q
-unfolding lowest
-lowest-ext zero p q h = refl
-lowest-ext (suc n) p q h = rw (h 0 (omega arith), lowest-ext n (λ w. p (suc w)) (λ w. q (suc w)) (λ w k. h (suc w) (omega arith)))
-
 -- what is below the lowest does not pass
 pub lowest-under : (n : ℕ) (p : ℕ → Bool) (w : ℕ) → w < lowest n p → p w ≡ false
 unfolding lowest

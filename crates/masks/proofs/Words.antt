@@ -2,7 +2,7 @@
 -- width. Assumes nothing.
 use mathlib.Core.Path.{_≡_, refl, sym, ap, _∙_}
 use mathlib.Core.Logic.{_≢_}
-use mathlib.Core.Bool.{Bool, true, false, not, _&&_, _||_}
+use mathlib.Core.Bool.{Bool, true, false, not, _&&_, _||_, and-false, and-true, or-false, or-true}
 use Prim.Native.Nat.{ℕ, _-_, _*_, _/_, _%_, _^_, _≤_, _<_}
 use native.Mathlib.Omega.{arith}
 use native.Mathlib.Nat.{one-mul, mod-lt, mod-eq-of-lt}
@@ -29,14 +29,6 @@ one-other v u k = ap (λ x. bit x u) (omega arith) ∙ add-other 0 v u (bit-zero
 pub test-bit : (m v : ℕ) → eqb (bitAnd (m / 2 ^ v) 1) 1 ≡ bit m v
 unfolding bit
 test-bit m v = ap (λ x. eqb x 1) (and-mask (m / 2 ^ v) 1)
-
-or-false : (x : Bool) → (x || false) ≡ x
-or-false true = refl
-or-false false = refl
-
-or-true : (x : Bool) → (x || true) ≡ true
-or-true true = refl
-or-true false = refl
 
 pub or-put : (w m v : ℕ) → m < 2 ^ w → v < w → bitOr m (2 ^ v) ≡ put m v
 or-put w m v h l = bit-ext w _ _ (or-lt w m (2 ^ v) h (pow-lt l)) (put-lt w m v h l) (λ u _. bit-or m (2 ^ v) u ∙ at u (ℕ-discrete u v))
@@ -95,14 +87,6 @@ wide-test n r = go (decLt r (2 ^ n))
 pub and-cut : (w m v : ℕ) → m < 2 ^ w → v < w → bitAnd m (2 ^ w - 1 - 2 ^ v) ≡ cut m v
 and-cut w m v h l = bit-ext w _ _ (and-lt w _ _ h (omega (arith, pow-pos w))) (cut-lt w m v h) (λ u k. bit-and m (2 ^ w - 1 - 2 ^ v) u ∙ at u k (ℕ-discrete u v))
   where
-    and-false : (x : Bool) → (x && false) ≡ false
-    and-false true = refl
-    and-false false = refl
-
-    and-true : (x : Bool) → (x && true) ≡ x
-    and-true true = refl
-    and-true false = refl
-
     at : (u : ℕ) → u < w → Dec (u ≡ v) → (bit m u && bit (2 ^ w - 1 - 2 ^ v) u) ≡ bit (cut m v) u
     at u k (yes e) = rw (comp-bit w (2 ^ v) u (pow-lt l) k, e, one-same v, cut-same m v) (and-false (bit m v))
     at u k (no q) = rw (comp-bit w (2 ^ v) u (pow-lt l) k, one-other v u q, cut-other m v u q) (and-true (bit m u))

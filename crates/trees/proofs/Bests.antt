@@ -2,7 +2,7 @@
 -- a branch to 0 holds its variable and does so to the low side, or lacks it and does so to the high side. Shown by induction on the tree. Assumes nothing.
 use mathlib.Core.Path.{_≡_, refl, sym, ap, _∙_, subst}
 use mathlib.Core.Logic.{_≢_, _⊎_, inl, inr, ⊎-elim, _↔_}
-use mathlib.Core.Bool.{Bool, true, false, not, _&&_, _||_, true≢false, false≢true}
+use mathlib.Core.Bool.{Bool, true, false, not, _&&_, _||_, true≢false, false≢true, Bool·not-not}
 use mathlib.Core.Option.{Option, none, some}
 use Prim.Native.Nat.{ℕ, suc, _≤_, _<_, _^_}
 use native.Mathlib.Omega.{arith}
@@ -174,11 +174,7 @@ at-under n (br v l h) u K K′ e = rw (e v (u .0), at-under n l (u .1) K K′ e,
 
 -- each kept set is, as far as the tree sees, what a set of n flip-flops leaves
 pub at-left : (n : ℕ) (t : Tree) → Under n t → (K : ℕ → Bool) → at t (left (those n (λ v. not (K v)))) ≡ at t K
-at-left n t u K = at-under n t u (left (those n (λ v. not (K v)))) K (λ v l. ap not (those-in n (λ w. not (K w)) v l) ∙ twice (K v))
-  where
-    twice : (x : Bool) → not (not x) ≡ x
-    twice true = refl
-    twice false = refl
+at-left n t u K = at-under n t u (left (those n (λ v. not (K v)))) K (λ v l. ap not (those-in n (λ w. not (K w)) v l) ∙ Bool·not-not (K v))
 
 module _ (c : ℕ → ℕ) (n : ℕ) (t : Tree) (o : Ordered 0 t) (u : Under n t) where
   answer : (r : Option ℕ) → best c n t ≡ r → Answer c n 0 (Frees t) r
