@@ -14,7 +14,7 @@ left S v = not (bit S v)
 abbrev pub Meets : (ℕ → ℕ → Bool) → ℕ → Type 0
 Meets E S = Loop E (left S) → ⊥
 
--- "Set S is lighter than T if it costs less, or costs the same and its mask is the smaller number", of sets of n flip-flops at the costs c
+-- "Set S is lighter than T if it costs less, or costs the same and its mask is the smaller number", of sets of n flip-flops at the costs c. (T is R here.)
 abbrev pub Lighter : (ℕ → ℕ) → ℕ → ℕ → ℕ → Type 0
 Lighter c n S R = (weight c n S < weight c n R) ⊎ ((weight c n S ≡ weight c n R) × (S < R))
 

@@ -1,4 +1,4 @@
--- The lightest set out of a tree: "The lightest set follows the paths to 0; an end at 0 costs nothing, an end at 1 has no set". Assumes nothing.
+-- The lightest set out of a tree: "The lightest set follows the paths to 0; an end at 0 costs nothing .., an end at 1 has no set". Assumes nothing.
 use mathlib.Core.Path.{_≡_}
 use mathlib.Core.Bool.{Bool, false, _&&_, _||_}
 use mathlib.Core.Option.{Option, none, some}
@@ -24,7 +24,7 @@ held v none = none
 held v (some S) = some (put S v)
 
 module _ (c : ℕ → ℕ) (n : ℕ) where
-  -- "Set S is lighter than T if it costs less, or costs the same and its mask is the smaller number": S is R or lighter
+  -- "Set S is lighter than T if it costs less, or costs the same and its mask is the smaller number": S is R, which T is here, or lighter
   unfoldable pub asLight : ℕ → ℕ → Bool
   asLight S R = ltb (weight c n S) (weight c n R) || (eqb (weight c n S) (weight c n R) && leb S R)
 
@@ -34,7 +34,7 @@ module _ (c : ℕ → ℕ) (n : ℕ) where
   lighter (some S) none = some S
   lighter (some S) (some R) = pick (asLight S R) (some S) (some R)
 
-  -- "The lightest set follows the paths to 0; an end at 0 costs nothing, an end at 1 has no set": on the low side v is not kept, so the set holds it
+  -- "The lightest set follows the paths to 0; an end at 0 costs nothing .., an end at 1 has no set": on the low side v is not kept, so the set holds it
   abbrev pub best : Tree → Option ℕ
   best off = some 0
   best on = none
