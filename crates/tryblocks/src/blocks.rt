@@ -61,14 +61,15 @@ pub fn pairs() -> [u64; 64] {
     rows
 }
 
-// Blocks in which the last of k passes still changes a member of B. B is a chain, cut into groups of four, each with a cheap flip-flop x in front (0, 5, 10
-// ..). With every x left out there is no loop, but the walk along the chain passes all of B. One pass fewer finds a loop there, and takes a member of B too.
-pub struct Priced {
+// Rows and costs together.
+pub struct Trial {
     pub rows: [u64; 64],
     pub costs: [u32; 64],
 }
 
-pub fn chain(n: usize) -> Priced
+// A block in which the last of k passes still changes a member of B. B is a chain, cut into groups of four, each with a cheap flip-flop x in front (0, 5, 10
+// ..). With every x left out there is no loop, but the walk along the chain passes all of B. One pass fewer finds a loop there, and takes a member of B too.
+pub fn chain(n: usize) -> Trial
     requires { ⌜ n ≤ 62 ⌝ }
 {
     let mut rows = [0u64; 64];
@@ -79,7 +80,7 @@ pub fn chain(n: usize) -> Priced
         costs[v] = chain_cost(v, n);
         v += 1;
     }
-    Priced { rows, costs }
+    Trial { rows, costs }
 }
 
 // Each leads to the next. The last of a group also leads past the next x, on along the chain, and 0 to 2. Each of B leads back to an x. No edge leads out of
