@@ -16,5 +16,6 @@ pub mod Choices
 pub mod Logs
 pub mod Answers
 pub mod Again
+pub mod Locals
 pub mod Lending
 pub mod Loan
