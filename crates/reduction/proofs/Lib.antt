@@ -17,5 +17,6 @@ pub mod Logs
 pub mod Answers
 pub mod Again
 pub mod Locals
+pub mod Record
 pub mod Lending
 pub mod Loan
