@@ -31,30 +31,23 @@ use Rattle.reduction.proofs.Trials.{one-found}
 use Rattle.reduction.proofs.Sides.{ins-fit, ins-is, beside-flip}
 
 module _ (c : ℕ → ℕ) (s : State) where
-  -- the moves of the rules from the first, the second .. on
-  abbrev from : Rule → Option Move → Option Move
-  from rule otherwise = wherever s (applies rule c s) (moveBy rule s) otherwise
+  -- the move of a rule, or what comes otherwise
+  abbrev by : Rule → Option Move → Option Move
+  by rule otherwise = wherever s (applies rule c s) (moveBy rule s) otherwise
 
-  abbrev pub from4 : Option Move
-  from4 = from OneOut none
+  -- the moves of the rules after a rule, and from a rule on
+  abbrev pub after : Rule → Option Move
+  after Looped = by Loose (by OneIn (by OneOut none))
+  after Loose = by OneIn (by OneOut none)
+  after OneIn = by OneOut none
+  after OneOut = none
 
-  abbrev pub from3 : Option Move
-  from3 = from OneIn from4
+  abbrev pub from : Rule → Option Move
+  from rule = by rule (after rule)
 
-  abbrev pub from2 : Option Move
-  from2 = from Loose from3
-
-  abbrev pub from1 : Option Move
-  from1 = from Looped from2
-
-  pub next-from : next c s ≡ from1
+  pub next-from : next c s ≡ from Looped
   unfolding next
   next-from = refl
-
-  -- the rule applies nowhere: the next one is tried
-  pub over : (rule : Rule) (v : ℕ) (otherwise : Option Move) → v ≡ lowest (length (s .rows)) (applies rule c s) → length (s .rows) ≤ v
-      → next c s ≡ from rule otherwise → next c s ≡ otherwise
-  over rule v otherwise e l h = h ∙ rw (← e, le-ltb v (length (s .rows)) l)
 
   fold-from : (side v : ℕ) → T (oneCheaper c (length (s .rows)) side v) → Foldable (length (s .rows)) side v
   fold-from side v t =
@@ -71,18 +64,24 @@ module _ (c : ℕ → ℕ) (s : State) where
   usable OneIn v t = fold-from (ins s v) v t
   usable OneOut v t = fold-from (outs s v) v t
 
-  -- it applies to v: that is the move
-  pub chosen : (rule : Rule) (v : ℕ) (otherwise : Option Move) → v ≡ lowest (length (s .rows)) (applies rule c s) → v < length (s .rows)
-      → next c s ≡ from rule otherwise → Chosen c s (Use rule (record { 0 = v }))
-  chosen rule v otherwise e l h = (l, usable rule v asked, h ∙ rw (← e, lt-ltb v (length (s .rows)) l))
+  -- the lowest flip-flop that a rule is tried on: it is the next move's, or none of the block's, and the next rule is tried
+  pub record Tried (rule : Rule) (v : ℕ) : Type 0 where
+    pub used : v < length (s .rows) → Chosen c s (Use rule (record { 0 = v }))
+    pub over : length (s .rows) ≤ v → next c s ≡ after rule
+
+  pub tried : (rule : Rule) (v : ℕ) → v ≡ lowest (length (s .rows)) (applies rule c s) → next c s ≡ from rule → Tried rule v
+  tried rule v e h = record {
+    used = λ l. (l, usable rule v (asked l), h ∙ rw (← e, lt-ltb v (length (s .rows)) l));
+    over = λ l. h ∙ rw (← e, le-ltb v (length (s .rows)) l);
+  }
     where
-      here : T (applies rule c s v)
-      here =
+      here : v < length (s .rows) → T (applies rule c s v)
+      here l =
           ⊎-elim (λ r. subst (λ x. T (applies rule c s x)) (sym e) (r .1)) (λ r. absurd (omega (arith, r .0, e)))
           (lowest-cases (length (s .rows)) (applies rule c s))
 
-      asked : T (asks rule c (length (s .rows)) (outs s v) (ins s v) v)
-      asked = T-and (bit (s .live) v) (asks rule c (length (s .rows)) (outs s v) (ins s v) v) here .1
+      asked : v < length (s .rows) → T (asks rule c (length (s .rows)) (outs s v) (ins s v) v)
+      asked l = T-and (bit (s .live) v) (asks rule c (length (s .rows)) (outs s v) (ins s v) v) (here l) .1
 
 -- ---- the neighbour that v is folded into
 

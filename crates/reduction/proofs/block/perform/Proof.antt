@@ -58,7 +58,7 @@ use Rattle.reduction.specs.declared.rules.Rule.the-variants.{Looped, Loo
 use Rattle.reduction.specs.Work.{block, Lent, Performed, changed, Used}
 use Rattle.reduction.proofs.Again.{LentAgain, lent-for, back-from}
 use Rattle.reduction.proofs.Locals.{reads, sets, span, Cell, free, full, env, cells, allocated, freed}
-use Rattle.reduction.proofs.Record.{set-val, vertex-val, done-val, change-val, record-val, rows-typed, set-typed, vertex-typed, done-typed, change-typed, has-set, has-vertex, outs-lft, ins-lft, Row, outs-own, ins-own, put-together, taken-apart, lies-in, lies-out}
+use Rattle.reduction.proofs.Record.{set-val, vertex-val, done-val, change-val, rows-val, record-val, block-val, rows-typed, set-typed, vertex-typed, done-typed, change-typed, has-set, has-vertex, outs-lft, ins-lft, Row, outs-own, ins-own, put-together, taken-apart, lies-in, lies-out}
 use Rattle.reduction.proofs.Lending.{used, Lends}
 use Rattle.reduction.proofs.Loan.{◐, ◑, meet, meet-0, meet-1, meet-2, toks, meets, unmeets, last-rows}
 use Rattle.reduction.proofs.block.perform.Key.{name}
@@ -273,10 +273,10 @@ module _ {M : Type 1} (𝓤 : URA M) (H : Heap 𝓤) (A : Atoms 𝓤) (W : Given
           move ! (0 ∷ 5 ∷ []) $ use2 W (‵ (flft (n .ν₀ ∷ []) fullShare) ⊛ ‵ (flft (μ₁ n) fullShare) ⊛ ‵ (flft (μ₂ n) fullShare)) (unmeets 𝓤 H A W (n .ν₀) (n .ν₁) (n .ν₂)) $
           split ! $ lft-end ! z $ use1 W (‵ (fdead (within n))) (W .lfts .dead-incl (within n) (n .ν₀ ∷ []) (meet-0 (n .ν₀) (n .ν₁) (n .ν₂))) $
           move ! (0 ∷ 3 ∷ 2 ∷ []) $ use3 W (later (‵ (mem (Row (μ₁ n) (μ₂ n)) .lies h′ l 0))) (ref-back 𝓤 H A W (Row (μ₁ n) (μ₂ n)) (within n) γ h′ l 0) $ await ! z $
-          use1 W (given (Is (Row (μ₁ n) (μ₂ n)) h′ (last ∷ [])) (‵ (fat fullShare (T′.mir erased erased) l 0 last) ⊛ ‵ (Row (μ₁ n) (μ₂ n) .own h′ (last ∷ [])))) (lies-out (μ₁ n) (μ₂ n) 𝓤 H A W h′ l) $ learn ! (λ g. split ! $
-          move ! (1 ∷ []) $ use1 W (‵ (outs-own (μ₁ n) (μ₂ n) h′ last₁) ⊛ ‵ (ins-own (μ₁ n) (μ₂ n) h′ last₂)) (taken-apart (μ₁ n) (μ₂ n) 𝓤 H A W h′) $ split ! $
-          use1 W (‵ (finally u64 (n .δ₁) xs′)) (last-rows 𝓤 H A W (μ₁ n) (h′ .outs) (last₁ ∷ [])) $ move ! (1 ∷ []) $
-          use1 W (‵ (finally u64 (n .δ₂) ys′)) (last-rows 𝓤 H A W (μ₂ n) (h′ .ins) (last₂ ∷ [])) $ move ! (3 ∷ []) $ split ! $
+          use1 W (given (Is (Row (μ₁ n) (μ₂ n)) h′ (block-val h′ ∷ [])) (‵ (fat fullShare (T′.mir erased erased) l 0 (block-val h′)) ⊛ ‵ (Row (μ₁ n) (μ₂ n) .own h′ (block-val h′ ∷ [])))) (lies-out (μ₁ n) (μ₂ n) 𝓤 H A W h′ l) $ learn ! (λ g. split ! $
+          move ! (1 ∷ []) $ use1 W (‵ (outs-own (μ₁ n) (μ₂ n) h′ (rows-val (h′ .outs))) ⊛ ‵ (ins-own (μ₁ n) (μ₂ n) h′ (rows-val (h′ .ins)))) (taken-apart (μ₁ n) (μ₂ n) 𝓤 H A W h′) $ split ! $
+          use1 W (‵ (finally u64 (n .δ₁) xs′)) (last-rows 𝓤 H A W (μ₁ n) (h′ .outs) (rows-val (h′ .outs) ∷ [])) $ move ! (1 ∷ []) $
+          use1 W (‵ (finally u64 (n .δ₂) ys′)) (last-rows 𝓤 H A W (μ₂ n) (h′ .ins) (rows-val (h′ .ins) ∷ [])) $ move ! (3 ∷ []) $ split ! $
           -- [ν₁'s token; ν₂'s; the last in-rows; the last out-rows; the record's cell; what is kept of outs; of ins]
           move ! (0 ∷ 5 ∷ 3 ∷ []) $ back-from W u64 (named 0) (named 1) κ₁ q₁ γ₁ b₁ o₁ xs z (n .ν₁) (n .δ₁) xs′ room₁ e₁ $
           move ! (2 ∷ 5 ∷ 3 ∷ []) $ back-from W u64 (named 1) (named 2) κ₂ q₂ γ₂ b₂ o₂ ys z (n .ν₂) (n .δ₂) ys′ room₂ e₂ $
@@ -284,15 +284,6 @@ module _ {M : Type 1} (𝓤 : URA M) (H : Heap 𝓤) (A : Atoms 𝓤) (W : Given
         where
           h′ : Block
           h′ = changed (h n) r xs′ ys′
-
-          last₁ : Val
-          last₁ = sliceVal (b₁, o₁) (length xs′)
-
-          last₂ : Val
-          last₂ = sliceVal (b₂, o₂) (length ys′)
-
-          last : Val
-          last = mach (r .live) (r .forced) xs′ ys′
 
       took : (w : Val) → ((r : Change) (xs′ ys′ : List ℕ) → Back rule w r xs′ ys′ → Sq W (all-back l r xs′ ys′ Γ) G) → Sq W (raw (Lends 𝓤 H A rule .post to-thin w) ∷ behind n γ l Γ) G
       took w k =

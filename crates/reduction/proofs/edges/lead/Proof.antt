@@ -1,5 +1,5 @@
 -- `lead` meets its contract. The loop's invariant: in the rows passed u stands where v stood. Assumes nothing.
-use mathlib.Core.Path.{_≡_, ap, _∙_}
+use mathlib.Core.Path.{_≡_, ap, _∙_, subst}
 use Prim.Native.Nat.{_-_}
 use native.Mathlib.Omega.{arith}
 use borrow.Author.Needs.{needs}
@@ -32,7 +32,7 @@ changed c =
     let l = c .before .before .before .before in
     let a = l .before .before .args in
     let row : number (c .before .row .result) ≡ getD (a .rows .now) (l .loop .w) 0 = c .before .row .ensures ∙ l .loop .inv .old _ (omega arith) in
-    c .led .ensures ∙ ap (leads (a .u .0) (a .v .0)) row
+    subst (λ m. number (c .led .result) ≡ leads (a .u .0) (a .v .0) m) row (c .led .ensures)
 
 set-row-requires : tie.Need-set-row-requires Inv-loop μ-loop
 set-row-requires c κs = search needs

@@ -1,87 +1,56 @@
 -- `choose` meets its contract: each rule in turn applies to a flip-flop, or nowhere. Assumes nothing.
-use mathlib.Core.Path.{_≡_}
-use mathlib.Core.Option.{none}
 use Prim.Native.Nat.{ℕ}
 use borrow.Author.Needs.{needs}
 use Rattle.masks.specs.Sets.{number}
+use Rattle.reduction.specs.declared.rules.Rule.{Rule}
 use Rattle.reduction.specs.declared.rules.Rule.the-variants.{Looped, Loose, OneIn, OneOut}
-use Rattle.reduction.specs.Rules.{State, next}
 use Rattle.reduction.specs.Work.{block, costOf}
-use Rattle.reduction.proofs.Choices.{from2, from3, from4, next-from, over, chosen}
+use Rattle.reduction.proofs.Choices.{next-from, Tried, tried}
 use Rattle.reduction.proofs.rules.choose.Statement.{statement}
 use Rattle.reduction.proofs.rules.choose.Tie as tie
 
--- the costs and the block as lent, and the places before each test
-abbrev cost : tie.Start → ℕ → ℕ
-cost c = costOf (c .args .costs .now)
+-- what the trial of each rule tells, of the costs and the block as lent: each after the one before it was over
+abbrev Trial : tie.Start → Rule → ℕ → Type 0
+Trial s rule v = (forced : ℕ) → Tried (costOf (s .args .costs .now)) (block (number (s .args .live)) forced (s .args .outs .now)) rule v
 
-abbrev lent : tie.Start → ℕ → State
-lent c forced = block (number (c .args .live)) forced (c .args .outs .now)
+trial1 : (c : tie.After-first-for) → Trial (c .before .before .before .before) Looped (c .first-for .result)
+trial1 c forced = tried _ _ Looped _ (c .first-for .ensures) (next-from _ _)
 
-abbrev start1 : tie.After-first-for → tie.Start
-start1 c = c .before .before .before .before
+trial2 : (c : tie.After-first-for2) → Trial (c .before .before .before .before .before .before) Loose (c .first-for2 .result)
+trial2 c forced = tried _ _ Loose _ (c .first-for2 .ensures) (trial1 (c .before .before) forced .over (c .before .if1 .left))
 
-abbrev start2 : tie.After-first-for2 → tie.Start
-start2 c = start1 (c .before .before)
+trial3 : (c : tie.After-first-for3) → Trial (c .before .before .before .before .before .before .before .before) OneIn (c .first-for3 .result)
+trial3 c forced = tried _ _ OneIn _ (c .first-for3 .ensures) (trial2 (c .before .before) forced .over (c .before .if2 .left))
 
-abbrev start3 : tie.After-first-for3 → tie.Start
-start3 c = start2 (c .before .before)
-
-abbrev start4 : tie.After-first-for4 → tie.Start
-start4 c = start3 (c .before .before)
+trial4 : (c : tie.After-first-for4) → Trial (c .before .before .before .before .before .before .before .before .before .before) OneOut (c .first-for4 .result)
+trial4 c forced = tried _ _ OneOut _ (c .first-for4 .ensures) (trial3 (c .before .before) forced .over (c .before .if3 .left))
 
 first-for-requires : tie.Need-first-for-requires
 first-for-requires c κs = search needs
 
 returns : tie.Need-returns
-returns c forced =
-    let s = start1 (c .before) in
-    chosen (cost s) (lent s forced) Looped _ (from2 (cost s) (lent s forced)) (c .before .first-for .ensures) (c .if1 .taken) (next-from (cost s) (lent s forced))
-
--- rule 1 applies nowhere
-past1 : (c : tie.Else1) (forced : ℕ) → let s = start1 (c .before) in next (cost s) (lent s forced) ≡ from2 (cost s) (lent s forced)
-past1 c forced =
-    let s = start1 (c .before) in
-    over (cost s) (lent s forced) Looped _ (from2 (cost s) (lent s forced)) (c .before .first-for .ensures) (c .if1 .left) (next-from (cost s) (lent s forced))
+returns c forced = trial1 (c .before) forced .used (c .if1 .taken)
 
 first-for-requires-2 : tie.Need-first-for-requires-2
 first-for-requires-2 c κs = search needs
 
 returns-2 : tie.Need-returns-2
-returns-2 c forced =
-    let s = start2 (c .before) in
-    chosen (cost s) (lent s forced) Loose _ (from3 (cost s) (lent s forced)) (c .before .first-for2 .ensures) (c .if2 .taken) (past1 (c .before .before) forced)
-
-past2 : (c : tie.Else2) (forced : ℕ) → let s = start2 (c .before) in next (cost s) (lent s forced) ≡ from3 (cost s) (lent s forced)
-past2 c forced =
-    let s = start2 (c .before) in
-    over (cost s) (lent s forced) Loose _ (from3 (cost s) (lent s forced)) (c .before .first-for2 .ensures) (c .if2 .left) (past1 (c .before .before) forced)
+returns-2 c forced = trial2 (c .before) forced .used (c .if2 .taken)
 
 first-for-requires-3 : tie.Need-first-for-requires-3
 first-for-requires-3 c κs = search needs
 
 returns-3 : tie.Need-returns-3
-returns-3 c forced =
-    let s = start3 (c .before) in
-    chosen (cost s) (lent s forced) OneIn _ (from4 (cost s) (lent s forced)) (c .before .first-for3 .ensures) (c .if3 .taken) (past2 (c .before .before) forced)
-
-past3 : (c : tie.Else3) (forced : ℕ) → let s = start3 (c .before) in next (cost s) (lent s forced) ≡ from4 (cost s) (lent s forced)
-past3 c forced =
-    let s = start3 (c .before) in
-    over (cost s) (lent s forced) OneIn _ (from4 (cost s) (lent s forced)) (c .before .first-for3 .ensures) (c .if3 .left) (past2 (c .before .before) forced)
+returns-3 c forced = trial3 (c .before) forced .used (c .if3 .taken)
 
 first-for-requires-4 : tie.Need-first-for-requires-4
 first-for-requires-4 c κs = search needs
 
 returns-4 : tie.Need-returns-4
-returns-4 c forced =
-    let s = start4 (c .before) in
-    chosen (cost s) (lent s forced) OneOut _ none (c .before .first-for4 .ensures) (c .if4 .taken) (past3 (c .before .before) forced)
+returns-4 c forced = trial4 (c .before) forced .used (c .if4 .taken)
 
 returns-5 : tie.Need-returns-5
-returns-5 c forced =
-    let s = start4 (c .before) in
-    over (cost s) (lent s forced) OneOut _ none (c .before .first-for4 .ensures) (c .if4 .left) (past3 (c .before .before) forced)
+returns-5 c forced = trial4 (c .before) forced .over (c .if4 .left)
 
 pub choose-spec : {M : Type 1} → statement M
 choose-spec =
