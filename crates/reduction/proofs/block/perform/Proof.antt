@@ -45,7 +45,7 @@ use denote.Triple.Clauses.{ensured, lasts}
 use denote.Triple.Table.{entered, cited}
 use denote.Triple.Walked.{says, needs, Stays, stay-slice, stay-none, walkOf, AllGo, goes-slice, goes-none, Walks, ends-at, walked, walk-meets}
 use denote.Exit.{yes}
-use denote.Signature.{plain}
+use denote.Signature.{Slot, plain}
 use denote.Signature.Struct.{makes}
 use Rattle.masks.specs.Sets.{number}
 use Rattle.masks.specs.declared.Mask.{Mask}
@@ -123,20 +123,12 @@ record Names : Type 0 where
   δ₁ : GName
   δ₂ : GName
 
+-- what the function still has of its parameters where it returns
+abbrev Rows : Slot 2
+Rows = plain (λ _. u64)
+
 abbrev stayed : Stays (perform.ended .signature .params) (perform.ended .kept)
-stayed = (
-  stay-none (λ _. Q.the-row) yes,
-  (
-    stay-none (λ _. N.the-row) yes,
-    (
-      stay-none (λ _. S.the-row) yes,
-      (
-        stay-none (λ _. S.the-row) yes,
-        (stay-slice (0 ∷ []) tt (plain (λ _. u64)), (stay-slice (1 ∷ []) tt (plain (λ _. u64)), tt)),
-      ),
-    ),
-  ),
-)
+stayed = (stay-none (λ _. Q.the-row) yes, (stay-none (λ _. N.the-row) yes, (stay-none (λ _. S.the-row) yes, (stay-none (λ _. S.the-row) yes, (stay-slice (0 ∷ []) tt Rows, (stay-slice (1 ∷ []) tt Rows, tt))))))
 
 module _ {M : Type 1} (𝓤 : URA M) (H : Heap 𝓤) (A : Atoms 𝓤) (W : Given 𝓤 H A) (at-mem : Memory → SProp 𝓤) (run : Routine → Fun 𝓤)
     (κ₁ κ₂ : Lft) (q₁ q₂ : Share) (v : Vertex) (live forced : Mask) (b₁ o₁ : ℕ) (γ₁ : GName) (xs : List ℕ) (b₂ o₂ : ℕ) (γ₂ : GName) (ys : List ℕ)
@@ -385,8 +377,7 @@ module _ {M : Type 1} (𝓤 : URA M) (H : Heap 𝓤) (A : Atoms 𝓤) (W : Given
           sets ! (of-opd ! (reads ! 26 refl)) 16 refl (done-typed W (r .done) _ (done-is rule w r xs′ ys′ back)) $
           sets ! (of-opd ! (load ! (from ! (fld ! refl (stop !))) (look-in ! 14 (sub ! 0 refl (whole !))))) 36 refl (set-typed W (r .live) (back .still-is)) $
           sets ! (of-opd ! (load ! (from ! (fld ! refl (stop !))) (look-in ! 14 (sub ! 1 refl (whole !))))) 38 refl (set-typed W (r .forced) (back .more-is)) $
-          sets ! (agg ! (and-then ! (reads ! 36 refl) (and-then ! (reads ! 38 refl) (and-then ! (reads ! 16 refl) (no-more !)))))
-          0 refl (change-typed W r _ (change-is rule w r xs′ ys′ back)) $
+          sets ! (agg ! (and-then ! (reads ! 36 refl) (and-then ! (reads ! 38 refl) (and-then ! (reads ! 16 refl) (no-more !))))) 0 refl (change-typed W r _ (change-is rule w r xs′ ys′ back)) $
           returns ! (look ! 0 refl) $ freed W (at-last rule r xs′ ys′) $ by ! (exits rule w r xs′ ys′ back)
 
       -- what was done is stored, and the arm ends
@@ -428,8 +419,7 @@ module _ {M : Type 1} (𝓤 : URA M) (H : Heap 𝓤) (A : Atoms 𝓤) (W : Given
           sets ! (agg ! (and-then ! (reads ! 18 refl) (and-then ! (load ! (from ! (fld ! refl (stop !))) (look-in ! 10 (sub ! 1 refl (whole !)))) (no-more !)))) 20 refl (rows-typed erased (outs-at γ₁ xs) room₁) $
           sets ! (addr ! (from ! (fld ! refl (hop ! (look-in ! 12 (sub ! 0 refl (whole !))) (stop !))))) 22 refl (tt, tt) $
           sets ! (agg ! (and-then ! (reads ! 22 refl) (and-then ! (load ! (from ! (fld ! refl (stop !))) (look-in ! 12 (sub ! 1 refl (whole !)))) (no-more !)))) 24 refl (rows-typed erased (ins-at γ₂ ys) room₂) $
-          sets ! (agg ! (and-then ! (reads ! 6 refl) (and-then ! (reads ! 8 refl) (and-then ! (reads ! 20 refl) (and-then ! (reads ! 24 refl) (no-more !))))))
-          14 refl record-typed $
+          sets ! (agg ! (and-then ! (reads ! 6 refl) (and-then ! (reads ! 8 refl) (and-then ! (reads ! 20 refl) (and-then ! (reads ! 24 refl) (no-more !)))))) 14 refl record-typed $
           move ! (14 ∷ 40 ∷ 41 ∷ []) $ lent-out tt rule (l 7) (λ n γ. first ! $ matched rule lent n γ)
 
   walk : (Cs : Calls 𝓤 H) (Λ : Loops 𝓤 H) → FmC 𝓤 H (W .laws) Cs → Known 𝓤 H A Cs → (rule : Rule) → Lent rule xs ys (v .0)
@@ -460,7 +450,7 @@ module _ {M : Type 1} (𝓤 : URA M) (H : Heap 𝓤) (A : Atoms 𝓤) (W : Given
         goes-none 𝓤 H A W 2 (λ _. S.the-row) yes (λ κs x f. refl),
         (
           goes-none 𝓤 H A W 2 (λ _. S.the-row) yes (λ κs x f. refl),
-          (goes-slice 𝓤 H A W 2 0 tt (plain (λ _. u64)), (goes-slice 𝓤 H A W 2 1 tt (plain (λ _. u64)), tt)),
+          (goes-slice 𝓤 H A W 2 0 tt Rows, (goes-slice 𝓤 H A W 2 1 tt Rows, tt)),
         ),
       ),
     ),
