@@ -75,6 +75,9 @@ block-val h = record-val (h .live) (h .forced) (rows-val (h .outs)) (rows-val (h
 
 -- what whoever holds a change knows of its fields
 module _ (r : Change) (w : Val) (is : Is Ch.the-row r (w ∷ [])) where
+  pub change-is : Is Ch.the-row r (change-val r ∷ [])
+  change-is = LL.owes Ch.the-type Ch′.the-laws r (LL.owed Ch.the-type Ch′.the-laws r _ is)
+
   pub change-live-is : Is S.the-row (r .live) (set-val (r .live) ∷ [])
   change-live-is = LL.owed Ch.the-type Ch′.the-laws r _ is .0
 

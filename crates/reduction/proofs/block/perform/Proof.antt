@@ -34,7 +34,7 @@ use denote.Memory.{mem}
 use denote.Laws.{Is, shows}
 use denote.Builtin.{u64}
 use denote.Lend.{lends-ref, ref-back}
-use denote.Ref.{RefT, MutRef, now}
+use denote.Ref.{RefT, MutRef}
 use denote.Slice.{sliceTy, sliceVal, slice-vals, mut-slice-tells, MutSlice, Room, finally}
 use denote.Steps.{only, owned, facts, heard, nothing}
 use denote.Triple.Entry.{onEntry}
@@ -46,7 +46,6 @@ use denote.Triple.Table.{entered, cited}
 use denote.Triple.Walked.{says, needs, Stays, stay-slice, stay-none, walkOf, AllGo, goes-slice, goes-none, Walks, ends-at, walked, walk-meets}
 use denote.Exit.{yes}
 use denote.Signature.{Slot, plain}
-use denote.Signature.Struct.{makes}
 use Rattle.masks.specs.Sets.{number}
 use Rattle.masks.specs.declared.Mask.{Mask}
 use Rattle.masks.specs.declared.Vertex.{Vertex}
