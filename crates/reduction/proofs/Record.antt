@@ -87,6 +87,10 @@ module _ (r : Change) (w : Val) (is : Is Ch.the-row r (w ∷ [])) where
   pub change-done-is : Is D.the-row (r .done) (done-val (r .done) ∷ [])
   change-done-is = LL.owed Ch.the-type Ch′.the-laws r _ is .1 .1 .0
 
+-- a change is made of two sets and of what was done, at any machine value of that
+pub change-made : (r : Change) (w : Val) → Is S.the-row (r .live) (set-val (r .live) ∷ []) → Is S.the-row (r .forced) (set-val (r .forced) ∷ []) → Is D.the-row (r .done) (w ∷ []) → Is Ch.the-row r (change-val r ∷ [])
+change-made r w live-is forced-is done-is = LL.owes Ch.the-type Ch′.the-laws r (live-is, (forced-is, (EL.owes D.the-type D′.the-laws (r .done) (EL.owed D.the-type D′.the-laws (r .done) _ done-is), tt)))
+
 pub rows-typed : (ℓ : Lifetime) (x : RefT (List ℕ)) → Room u64 (length (x .now)) → Holds (hasTy (sliceTy (tyRef ℓ mut (tyInt w64))) (rows-val x)) × WT (rows-val x)
 rows-typed ℓ x room = (tt, (tt, (record { fits = room .0 }, tt)))
 

@@ -57,7 +57,7 @@ use Rattle.reduction.specs.declared.rules.Rule.the-variants.{Looped, Loo
 use Rattle.reduction.specs.Work.{block, Lent, Performed, changed, Used}
 use Rattle.reduction.proofs.Again.{LentAgain, lent-for, back-from}
 use Rattle.reduction.proofs.Locals.{reads, sets, span, Content, empty, has, env, cells, allocated, freed}
-use Rattle.reduction.proofs.Record.{set-val, vertex-val, done-val, change-val, rows-val, record-val, block-val, rows-typed, set-typed, vertex-typed, done-typed, change-typed, has-set, has-vertex, Row, outs-own, ins-own, put-together, taken-apart, lies-in, lies-out}
+use Rattle.reduction.proofs.Record.{set-val, vertex-val, done-val, change-val, rows-val, record-val, block-val, change-made, change-live-is, change-forced-is, change-done-is, rows-typed, set-typed, vertex-typed, done-typed, change-typed, has-set, has-vertex, Row, outs-own, ins-own, put-together, taken-apart, lies-in, lies-out}
 use Rattle.reduction.proofs.Lending.{used, Lends}
 use Rattle.reduction.proofs.Loan.{◐, ◑, meet, meet-0, meet-1, meet-2, toks, meets, unmeets, last-rows}
 use Rattle.reduction.proofs.block.perform.Key.{name}
@@ -222,8 +222,7 @@ module _ {M : Type 1} (𝓤 : URA M) (H : Heap 𝓤) (A : Atoms 𝓤) (W : Given
   -- what is known once a thin function has returned w: the change, and the rows that it left
   record Back (rule : Rule) (w : Val) (r : Change) (xs′ ys′ : List ℕ) : Type 0 where
     told-is : Is D.the-row (r .done) (w ∷ [])
-    still-is : Is S.the-row (r .live) (set-val (r .live) ∷ [])
-    more-is : Is S.the-row (r .forced) (set-val (r .forced) ∷ [])
+    change-is : Is Ch.the-row r (change-val r ∷ [])
     outs-long : length xs′ ≡ length xs
     ins-long : length ys′ ≡ length ys
     performed : Performed rule (block (number live) (number forced) xs) (v .0) r xs′ ys′
@@ -283,10 +282,11 @@ module _ {M : Type 1} (𝓤 : URA M) (H : Heap 𝓤) (A : Atoms 𝓤) (W : Given
           pick ! (λ ls. split ! $ move ! (1 ∷ []) $ heard ! (Used rule (h n) (v .0) told (ls .0)) (λ u.
           fsplit ! $ rewrite ! 0 (λ (d : Block). ‵ (fres γ (Row (μ₁ n) (μ₂ n) .coded .code d))) (u .whole) refl $ move ! (1 ∷ []) $ drop ! $
           move ! (1 ∷ []) $ split ! $ move ! (1 ∷ []) $ facts ! D.the-row (Is D.the-row) (shows 𝓤 H A D.the-row) told (w ∷ []) (λ is.
-          unlent (u .change) (u .outs) (u .ins) (u .outs-long) (u .ins-long) (λ still-is more-is. k (u .change) (u .outs) (u .ins) (record {
-            told-is = subst (λ (d : Done). Is D.the-row d (w ∷ [])) (u .tells) is;
-            still-is = still-is;
-            more-is = more-is;
+          unlent (u .change) (u .outs) (u .ins) (u .outs-long) (u .ins-long) (λ live-is forced-is.
+          let told-is = subst (λ (d : Done). Is D.the-row d (w ∷ [])) (u .tells) is in
+          k (u .change) (u .outs) (u .ins) (record {
+            told-is = told-is;
+            change-is = change-made (u .change) w live-is forced-is told-is;
             outs-long = u .outs-long;
             ins-long = u .ins-long;
             performed = u .performed;
@@ -294,12 +294,6 @@ module _ {M : Type 1} (𝓤 : URA M) (H : Heap 𝓤) (A : Atoms 𝓤) (W : Given
 
   -- the sets and what was done are returned, and either side stands at its last rows
   module _ (rule : Rule) (w : Val) (r : Change) (xs′ ys′ : List ℕ) (back : Back rule w r xs′ ys′) where
-    done-is : Is D.the-row (r .done) (done-val (r .done) ∷ [])
-    done-is = EL.owes D.the-type D′.the-laws (r .done) (EL.owed D.the-type D′.the-laws (r .done) _ (back .told-is))
-
-    change-is : Is Ch.the-row r (change-val r ∷ [])
-    change-is = LL.owes Ch.the-type Ch′.the-laws r (back .still-is, (back .more-is, (done-is, tt)))
-
     exits : ent 𝓤 (⋆ 𝓤 H A (rows-back xs′ ys′ [])) (Post rule (change-val r))
     exits =
         qed W (rows-back xs′ ys′ []) ∵
@@ -307,7 +301,7 @@ module _ {M : Type 1} (𝓤 : URA M) (H : Heap 𝓤) (A : Atoms 𝓤) (W : Given
         nothing ! $ move ! (4 ∷ 0 ∷ []) $ join ! $ move ! (2 ∷ 0 ∷ []) $ join ! $ frame ! $ nothing ! $ move ! (2 ∷ 0 ∷ []) $ fjoin ! $ move ! (1 ∷ 0 ∷ []) $ fjoin ! $
         has-set W forced forced-is $ fjoin ! $ has-set W live live-is $ fjoin ! $ has-vertex W v v-is $ fjoin ! $
         owned ! Q.the-row (Is Q.the-row) (EL.makes Q.the-type Q′.the-plain 𝓤 H A) rule _ (rule-is rule) $ fjoin ! $
-        owned ! Ch.the-row (Is Ch.the-row) (LL.makes Ch.the-type Ch′.the-plain 𝓤 H A) r _ change-is $ move ! (1 ∷ 0 ∷ []) $ done !
+        owned ! Ch.the-row (Is Ch.the-row) (LL.makes Ch.the-type Ch′.the-plain 𝓤 H A) r _ (back .change-is) $ move ! (1 ∷ 0 ∷ []) $ done !
 
   -- ---- the walk. Local i lies at `l i`, and stands at 2 · i where nothing is before the locals
 
@@ -356,10 +350,10 @@ module _ {M : Type 1} (𝓤 : URA M) (H : Heap 𝓤) (A : Atoms 𝓤) (W : Given
       -- what follows the match
       leaves : Sq W (cells ls l (after rule r xs′ ys′ (has (done-val (r .done)))) (rows-back xs′ ys′ [])) (runs Cs Λ E mir.t-7 (atRet E (Post rule)))
       leaves =
-          sets ! (of-opd ! (reads ! 26 refl)) 16 refl (done-typed W (r .done) _ (done-is rule w r xs′ ys′ back)) $
-          sets ! (of-opd ! (load ! (from ! (fld ! refl (stop !))) (look-in ! 14 (sub ! 0 refl (whole !))))) 36 refl (set-typed W (r .live) (back .still-is)) $
-          sets ! (of-opd ! (load ! (from ! (fld ! refl (stop !))) (look-in ! 14 (sub ! 1 refl (whole !))))) 38 refl (set-typed W (r .forced) (back .more-is)) $
-          sets ! (agg ! (and-then ! (reads ! 36 refl) (and-then ! (reads ! 38 refl) (and-then ! (reads ! 16 refl) (no-more !))))) 0 refl (change-typed W r _ (change-is rule w r xs′ ys′ back)) $
+          sets ! (of-opd ! (reads ! 26 refl)) 16 refl (done-typed W (r .done) _ (change-done-is r _ (back .change-is))) $
+          sets ! (of-opd ! (load ! (from ! (fld ! refl (stop !))) (look-in ! 14 (sub ! 0 refl (whole !))))) 36 refl (set-typed W (r .live) (change-live-is r _ (back .change-is))) $
+          sets ! (of-opd ! (load ! (from ! (fld ! refl (stop !))) (look-in ! 14 (sub ! 1 refl (whole !))))) 38 refl (set-typed W (r .forced) (change-forced-is r _ (back .change-is))) $
+          sets ! (agg ! (and-then ! (reads ! 36 refl) (and-then ! (reads ! 38 refl) (and-then ! (reads ! 16 refl) (no-more !))))) 0 refl (change-typed W r _ (back .change-is)) $
           returns ! (look ! 0 refl) $ freed W ls l (at-last rule r xs′ ys′) $ by ! (exits rule w r xs′ ys′ back)
 
       -- what was done is stored, and the arm ends
