@@ -20,6 +20,10 @@ plainFrom v (r ∷ rs) = cut r v ∷ plainFrom (suc v) rs
 abbrev pub plain : List ℕ → List ℕ
 plain rows = plainFrom 0 rows
 
+-- a flip-flop's cost
+abbrev pub costOf : List ℕ → ℕ → ℕ
+costOf costs v = getD costs v 0
+
 -- x is one of the list
 abbrev pub Of : {A : Type 0} → A → List A → Type 0
 Of x [] = ⊥

@@ -11,14 +11,14 @@ use lib.ListN.{length, getD, take, drop, replicate, length-append, length-replic
 use lib.Seq.{length-take-le, take-at, drop-at}
 use Rattle.masks.specs.Sets.{pick}
 use Rattle.graphs.specs.declared.Refusal.{Refusal}
-use Rattle.graphs.specs.Graph.{plain}
+use Rattle.graphs.specs.Graph.{plain, costOf}
 use Rattle.graphs.specs.Refusals.{first, checks}
 use Rattle.graphs.proofs.Loops.{RowsFit, rows-lt, plain-length, plain-fits}
 use Rattle.reduction.specs.declared.Log.{Log}
 use Rattle.reduction.specs.declared.Reduced.{Reduced}
 use Rattle.reduction.specs.Rules.{start, run}
 use Rattle.reduction.specs.Promise.{told, outcome, filled, Returned, ReducePromise}
-use Rattle.reduction.specs.Work.{block, costOf, Logged}
+use Rattle.reduction.specs.Work.{block, Logged}
 use Rattle.reduction.proofs.Runs.{run-more}
 
 -- ---- the first part of 64 rows

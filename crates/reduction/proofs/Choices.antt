@@ -25,7 +25,7 @@ use Rattle.reduction.specs.declared.Turn.the-variants.{Made}
 use Rattle.reduction.specs.declared.rules.Choice.{Choice}
 use Rattle.reduction.specs.declared.rules.Choice.the-variants.{Use}
 use Rattle.reduction.specs.Rules.{State, outs, ins, beats, foldIn, foldOut, Move, wherever, next}
-use Rattle.reduction.specs.Work.{Beside, edges, oneCheaper, asks, applies, moveBy, Foldable, Usable, Chosen, Joined, Performed, Advanced}
+use Rattle.reduction.specs.Work.{Beside, edges, oneCheaper, asks, applies, moveBy, Foldable, Usable, Chosen, FoldedInto, Performed, Advanced}
 use Rattle.reduction.proofs.Next.{beats-cheaper}
 use Rattle.reduction.proofs.Trials.{one-found}
 use Rattle.reduction.proofs.Sides.{ins-fit, ins-is, beside-flip}
@@ -118,8 +118,8 @@ module _ (s : State) (ins′ : List ℕ) (b : Beside (s .rows) ins′) (v : ℕ)
     abbrev folded : Change
     folded = record { live = live; forced = forced; done = Folded u }
 
-    pub joined-in : Joined (s .rows) ins′ v (u .0) outs″ ins″ → Performed OneIn s v folded outs″ ins″
-    joined-in j =
+    pub folds-in : FoldedInto (s .rows) ins′ v (u .0) outs″ ins″ → Performed OneIn s v folded outs″ ins″
+    folds-in j =
         let e = j .into ∙ ap (λ m. lowest (length (s .rows)) (bit m)) (ins-is (s .rows) ins′ b v) in
         record {
           live = cuts;
@@ -129,8 +129,8 @@ module _ (s : State) (ins′ : List ℕ) (b : Beside (s .rows) ins′) (v : ℕ)
           beside = j .beside;
         }
 
-    pub joined-out : Joined ins′ (s .rows) v (u .0) ins″ outs″ → Performed OneOut s v folded outs″ ins″
-    joined-out j =
+    pub folds-out : FoldedInto ins′ (s .rows) v (u .0) ins″ outs″ → Performed OneOut s v folded outs″ ins″
+    folds-out j =
         let e = j .into ∙ ap (λ n. lowest n (bit (getD (s .rows) v 0))) (b .even) in
         record {
           live = cuts;

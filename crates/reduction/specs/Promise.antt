@@ -3,8 +3,9 @@ use mathlib.Core.Path.{_≡_}
 use mathlib.Core.List.{List, [], _++_}
 use mathlib.Core.Option.{Option, none, some}
 use Prim.Native.Nat.{ℕ, _-_}
-use lib.ListN.{length, getD, replicate}
+use lib.ListN.{length, replicate}
 use Rattle.masks.specs.Sets.{number}
+use Rattle.graphs.specs.Graph.{costOf}
 use Rattle.graphs.specs.Refusals.{first, checks}
 use Rattle.graphs.specs.declared.Refusal.{Refusal}
 use Rattle.reduction.specs.declared.Step.{Step}
@@ -19,7 +20,7 @@ told (some r) = r
 
 -- what is left and which steps were made: nothing and none after a refusal
 abbrev pub outcome : Option Refusal → List ℕ → List ℕ → ℕ → Run
-outcome none rows costs limit = run (λ v. getD costs v 0) limit (start rows)
+outcome none rows costs limit = run (costOf costs) limit (start rows)
 outcome (some r) rows costs limit = record { left = record { live = 0; forced = 0; rows = [] }; steps = [] }
 
 -- a list of 64, filled up

@@ -38,9 +38,6 @@ block live forced rows = record { live = live; forced = forced; rows = rows }
 abbrev pub edges : List ℕ → State
 edges rows = block 0 0 rows
 
-abbrev pub costOf : List ℕ → ℕ → ℕ
-costOf costs v = getD costs v 0
-
 -- ---- a rule by its name
 
 -- of the set of v's neighbours on one side, among n: one, that is cheaper
@@ -99,7 +96,7 @@ Chosen c s (Use rule v) = (v .0 < length (s .rows)) × Usable rule (s .rows) (v 
 Chosen c s Nothing = next c s ≡ none
 
 -- v was folded into its one in-neighbour u
-pub record Joined (outs ins : List ℕ) (v u : ℕ) (outs′ ins′ : List ℕ) : Type 0 where
+pub record FoldedInto (outs ins : List ℕ) (v u : ℕ) (outs′ ins′ : List ℕ) : Type 0 where
   pub into : u ≡ lowest (length outs) (bit (getD ins v 0))
   pub gains : outs′ ≡ foldIn u v (edges outs) .rows
   pub leads : ins′ ≡ foldOut u v (edges ins) .rows

@@ -8,7 +8,7 @@ ghost use lib.ListN.{length, getD};
 ghost use Rattle.masks.specs.Sets.{pick, bit, put, cut, those, number};
 ghost use Rattle.graphs.specs.Graph.{plain};
 ghost use Rattle.reduction.specs.Rules.{bare, foldIn, foldOut};
-ghost use Rattle.reduction.specs.Work.{Beside, edges, Foldable, Joined};
+ghost use Rattle.reduction.specs.Work.{Beside, edges, Foldable, FoldedInto};
 use masks::Mask;
 use masks::Vertex;
 
@@ -110,7 +110,7 @@ pub fn remove(outs: &mut [u64], ins: &mut [u64], v: Vertex)
 // Folds v into its one in-neighbour, and tells which. Rule 4 is this with the sides exchanged.
 pub fn fold(outs: &mut [u64], ins: &mut [u64], v: Vertex) -> Vertex
     requires { ⌜ Beside (now outs) (now ins) × (v .0 < length (now outs)) × Foldable (length (now outs)) (getD (now ins) (v .0) 0) (v .0) ⌝ }
-    ensures { λ r. ⌜ Joined (now (outs .entry)) (now (ins .entry)) (v .0) (r .0) (now (outs .exit)) (now (ins .exit)) ⌝ }
+    ensures { λ r. ⌜ FoldedInto (now (outs .entry)) (now (ins .entry)) (v .0) (r .0) (now (outs .exit)) (now (ins .exit)) ⌝ }
 {
     let u = Vertex(Mask::row(ins, v).next_member(0));
     gain(outs, u, v);

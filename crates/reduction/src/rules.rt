@@ -5,8 +5,9 @@ ghost use Prim.Native.Nat.{ℕ, _≤_, _<_, _^_};
 ghost use lib.Dec.{eqb};
 ghost use lib.ListN.{length};
 ghost use Rattle.masks.specs.Sets.{bit, lowest, number};
+ghost use Rattle.graphs.specs.Graph.{costOf};
 ghost use Rattle.reduction.specs.Rules.{beats};
-ghost use Rattle.reduction.specs.Work.{Beside, block, costOf, oneCheaper, asks, applies, Chosen};
+ghost use Rattle.reduction.specs.Work.{Beside, block, oneCheaper, asks, applies, Chosen};
 use masks::Mask;
 use masks::Vertex;
 

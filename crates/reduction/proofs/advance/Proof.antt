@@ -3,9 +3,10 @@ use mathlib.Core.Path.{refl}
 use Prim.Native.Nat.{ℕ}
 use borrow.Author.Needs.{needs}
 use Rattle.masks.specs.Sets.{number}
+use Rattle.graphs.specs.Graph.{costOf}
 use Rattle.reduction.specs.declared.rules.Choice.the-variants.{Use, Nothing}
 use Rattle.reduction.specs.Rules.{State}
-use Rattle.reduction.specs.Work.{block, costOf, Chosen}
+use Rattle.reduction.specs.Work.{block, Chosen}
 use Rattle.reduction.proofs.Choices.{chosen-as, made}
 use Rattle.reduction.proofs.advance.Statement.{statement}
 use Rattle.reduction.proofs.advance.Tie as tie

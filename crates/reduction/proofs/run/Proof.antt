@@ -6,9 +6,10 @@ use native.Mathlib.Omega.{arith}
 use borrow.Author.Needs.{needs}
 use lib.ListN.{length, replicate}
 use Rattle.masks.specs.Sets.{number}
+use Rattle.graphs.specs.Graph.{costOf}
 use Rattle.reduction.specs.declared.Turn.{Turn}
 use Rattle.reduction.specs.declared.Turn.the-variants.{Made, Ended}
-use Rattle.reduction.specs.Work.{block, costOf, Advanced}
+use Rattle.reduction.specs.Work.{block, Advanced}
 use Rattle.reduction.proofs.Choices.{advanced-as}
 use Rattle.reduction.proofs.Logs.{Going, going-none, going-more, going-end}
 use Rattle.reduction.proofs.run.Statement.{statement}

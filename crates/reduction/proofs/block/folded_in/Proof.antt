@@ -4,7 +4,7 @@ use borrow.Author.Needs.{needs}
 use Rattle.masks.specs.Sets.{number}
 use Rattle.reduction.specs.Rules.{State}
 use Rattle.reduction.specs.Work.{block}
-use Rattle.reduction.proofs.Choices.{foldable-in, joined-in}
+use Rattle.reduction.proofs.Choices.{foldable-in, folds-in}
 use Rattle.reduction.proofs.block.folded_in.Statement.{statement}
 use Rattle.reduction.proofs.block.folded_in.Tie as tie
 
@@ -29,7 +29,7 @@ returns : tie.Need-returns
 returns c =
     let call = c .before .before .before .before .before in
     let s = call .before .before .before .before .before in
-    joined-in (lent s) _ (s .pre .0) _ _ _ _ _ _ (c .cut .ensures) refl (call .fold .ensures)
+    folds-in (lent s) _ (s .pre .0) _ _ _ _ _ _ (c .cut .ensures) refl (call .fold .ensures)
 
 pub folded-in-spec : {M : Type 1} → statement M
 folded-in-spec = tie.close (tie.spec fold-requires cut-requires same-length same-length-2 returns)

@@ -5,7 +5,7 @@ use borrow.Author.Needs.{needs}
 use Rattle.masks.specs.Sets.{number}
 use Rattle.reduction.specs.Rules.{State}
 use Rattle.reduction.specs.Work.{block}
-use Rattle.reduction.proofs.Choices.{foldable-out, joined-out}
+use Rattle.reduction.proofs.Choices.{foldable-out, folds-out}
 use Rattle.reduction.proofs.Sides.{beside-flip}
 use Rattle.reduction.proofs.block.folded_out.Statement.{statement}
 use Rattle.reduction.proofs.block.folded_out.Tie as tie
@@ -31,7 +31,7 @@ returns : tie.Need-returns
 returns c =
     let call = c .before .before .before .before .before in
     let s = call .before .before .before .before .before in
-    joined-out (lent s) _ (s .pre .0) _ _ _ _ _ _ (c .cut .ensures) refl (call .fold .ensures)
+    folds-out (lent s) _ (s .pre .0) _ _ _ _ _ _ (c .cut .ensures) refl (call .fold .ensures)
 
 pub folded-out-spec : {M : Type 1} → statement M
 folded-out-spec = tie.close (tie.spec fold-requires cut-requires same-length same-length-2 returns)

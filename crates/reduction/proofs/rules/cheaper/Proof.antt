@@ -1,5 +1,5 @@
 -- `cheaper` meets its contract: the two costs are the same, or not. Assumes nothing.
-use Rattle.reduction.specs.Work.{costOf}
+use Rattle.graphs.specs.Graph.{costOf}
 use Rattle.reduction.proofs.Trials.{same-cost, other-cost}
 use borrow.Author.Needs.{needs}
 use Rattle.reduction.proofs.rules.cheaper.Statement.{statement}

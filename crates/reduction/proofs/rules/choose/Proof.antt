@@ -2,9 +2,10 @@
 use Prim.Native.Nat.{ℕ}
 use borrow.Author.Needs.{needs}
 use Rattle.masks.specs.Sets.{number}
+use Rattle.graphs.specs.Graph.{costOf}
 use Rattle.reduction.specs.declared.rules.Rule.{Rule}
 use Rattle.reduction.specs.declared.rules.Rule.the-variants.{Looped, Loose, OneIn, OneOut}
-use Rattle.reduction.specs.Work.{block, costOf}
+use Rattle.reduction.specs.Work.{block}
 use Rattle.reduction.proofs.Choices.{next-from, Tried, tried}
 use Rattle.reduction.proofs.rules.choose.Statement.{statement}
 use Rattle.reduction.proofs.rules.choose.Tie as tie

@@ -8,7 +8,8 @@ use borrow.Author.Needs.{needs}
 use lib.ListN.{length}
 use Rattle.masks.specs.Sets.{number}
 use Rattle.masks.proofs.Lowest.{lowest-is, lowest-none}
-use Rattle.reduction.specs.Work.{block, costOf, applies}
+use Rattle.graphs.specs.Graph.{costOf}
+use Rattle.reduction.specs.Work.{block, applies}
 use Rattle.reduction.proofs.Sides.{outs-fit, ins-fit, suits-applies}
 use Rattle.reduction.proofs.rules.first_for.Statement.{statement}
 use Rattle.reduction.proofs.rules.first_for.Tie as tie

@@ -5,7 +5,7 @@ use lib.Count.{ones}
 use lib.ListN.{length}
 use Rattle.masks.specs.Sets.{bit, lowest, number}
 use Rattle.masks.proofs.Counts.{one-member}
-use Rattle.reduction.specs.Work.{costOf}
+use Rattle.graphs.specs.Graph.{costOf}
 use Rattle.reduction.proofs.Trials.{one-found, not-one, is-one}
 use borrow.Author.Needs.{needs}
 use Rattle.reduction.proofs.rules.folds.Statement.{statement}

@@ -5,9 +5,10 @@ use borrow.Author.Needs.{needs}
 use borrow.Author.Tests.{not-true, not-false}
 use lib.ListN.{length}
 use Rattle.masks.specs.Sets.{bit, number}
+use Rattle.graphs.specs.Graph.{costOf}
 use Rattle.reduction.specs.declared.rules.Rule.{Rule}
 use Rattle.reduction.specs.declared.rules.Rule.the-variants.{Looped, Loose, OneIn, OneOut}
-use Rattle.reduction.specs.Work.{costOf, asks}
+use Rattle.reduction.specs.Work.{asks}
 use Rattle.reduction.proofs.Trials.{not-live, tried}
 use Rattle.reduction.proofs.rules.suits.Statement.{statement}
 use Rattle.reduction.proofs.rules.suits.Tie as tie
