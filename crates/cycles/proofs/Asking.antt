@@ -10,7 +10,7 @@ use native.Mathlib.Omega.{arith}
 use lib.Dec.{T, eqb, leb}
 use borrow.Author.Tests.{eq-eqb}
 use lib.ListN.{length, take, drop, replicate, length-take}
-use Rattle.masks.specs.Sets.{bit, pick, minus, number}
+use Rattle.masks.specs.Sets.{bit, pick, minus}
 use Rattle.masks.proofs.Words.{wide-test}
 use Rattle.graphs.specs.Graph.{edge, Of, Loop}
 use Rattle.graphs.specs.Components.{Component, Components, Lowest, inside}

@@ -5,26 +5,23 @@ use mathlib.Core.Logic.{inl, inr, ⊎-elim, _↔_, Iff·trans, Iff·symm}
 use mathlib.Core.Bool.{Bool, true, false, _||_}
 use mathlib.Core.List.{List, [], _∷_}
 use mathlib.Core.Option.{Option, none, some}
-use Prim.Native.Nat.{ℕ, _≤_, _<_, _^_}
-use native.Mathlib.Omega.{arith}
-use native.Mathlib.Decide.{decLt}
-use lib.Dec.{T, leb, ltb, le→leb}
-use lib.ListN.{length, getD}
-use borrow.Author.Tests.{lt-ltb}
-use Rattle.masks.specs.Sets.{bit, pick, lowest}
+use Prim.Native.Nat.{ℕ}
+use lib.Dec.{T}
+use lib.ListN.{length}
+use Rattle.masks.specs.Sets.{bit}
 use Rattle.masks.proofs.Tests.{T-or, or-l, or-r}
 use Rattle.graphs.specs.Graph.{edge, Of, Loop}
 use Rattle.graphs.specs.Components.{Component, Components, inside}
-use Rattle.graphs.specs.Refusals.{first, wide, tooMany, outside}
+use Rattle.graphs.specs.Refusals.{first, tooMany, outside}
 use Rattle.graphs.specs.declared.Refusal.{Refusal}
 use Rattle.graphs.proofs.Loops.{RowsFit}
+use Rattle.graphs.proofs.Tables.{first-off, first-rest, outside-off, refusal-same}
 use Rattle.graphs.proofs.Components.{EdgesBelow, edges-below, componentsOf, components-found}
 use Rattle.trees.specs.Tree.{eval}
 use Rattle.nodes.specs.Rooms.{capacity, emptied, zeroed}
 use Rattle.cycles.specs.Promise.{keptOutside, askLines, AskAnswer, AskCases, AskPromise}
 use Rattle.cycles.specs.declared.Asked.{Asked}
 use Rattle.cycles.specs.declared.Asked.the-variants.{Yes, No, Refused}
-use Rattle.masks.proofs.Lowest.{lowest-le}
 use Rattle.cycles.proofs.Passes.{cycle-loop, loop-parts}
 use Rattle.cycles.proofs.Models.{cycleT, cycle-is}
 use Rattle.cycles.proofs.Fits.{Fitting, fits, exceeds, fitting, Fits, fitting-is, answered-unique, too-large-unique, answered-or-too-large}
@@ -66,57 +63,11 @@ memoModel rows kept memo = after (first (askLines rows kept)) memo (zeroed memo)
 
 -- ---- a block that is not refused
 
--- of lines none of which is given, the first is not, nor any of the rest
-not-given : (x : Bool) (r : Refusal) (o : Option Refusal) → pick x (some r) o ≡ none → (x ≡ false) × (o ≡ none)
-not-given true r o e =
-    let z : _≡_ {A = ℕ} 0 1 = cc in
-    absurd (omega arith)
-not-given false r o e = (refl, e)
-
-pub record Valid (rows : List ℕ) (kept : ℕ) : Type 0 where
-  pub few : length rows ≤ 64
-  pub fit : RowsFit rows
-  pub kept-lt : kept < 2 ^ length rows
-
-pub valid : (rows : List ℕ) (kept : ℕ) → first (askLines rows kept) ≡ none → Valid rows kept
-valid rows kept e =
-    let n : ℕ = length rows in
-    let a = not-given (tooMany n .given) (record { number = 1; place = 0 }) (first (outside rows ∷ keptOutside n kept ∷ [])) e in
-    let b = not-given (outside rows .given) (record { number = 3; place = lowest n (wide rows) }) (first (keptOutside n kept ∷ [])) (a .1) in
-    let c = not-given (keptOutside n kept .given) (record { number = 9; place = 0 }) none (b .1) in
-    record { few = no-lt 64 n (a .0); fit = λ v l. narrow v l (b .0); kept-lt = no-le (2 ^ n) kept (c .0) }
-  where
-    no-le : (a b : ℕ) → leb a b ≡ false → b < a
-    no-le a b e = go (decLt b a)
-      where
-        go : Dec (b < a) → b < a
-        go (yes l) = l
-        go (no k) =
-            let k′ : ¬ (b < a) = k in
-            absurd (subst T e (le→leb a b (omega arith)))
-
-    no-lt : (a b : ℕ) → ltb a b ≡ false → b ≤ a
-    no-lt a b e = go (decLt a b)
-      where
-        go : Dec (a < b) → b ≤ a
-        go (yes l) = absurd (subst T (sym (lt-ltb a b l) ∙ e) tt)
-        go (no k) =
-            let k′ : ¬ (a < b) = k in
-            omega arith
-
-    narrow : (v : ℕ) → v < length rows → ltb (lowest (length rows) (wide rows)) (length rows) ≡ false → getD rows v 0 < 2 ^ length rows
-    narrow v l e = go (decLt (getD rows v 0) (2 ^ length rows))
-      where
-        go : Dec (getD rows v 0 < 2 ^ length rows) → getD rows v 0 < 2 ^ length rows
-        go (yes k) = k
-        go (no k) =
-            let k′ : ¬ (getD rows v 0 < 2 ^ length rows) = k in
-            absurd
-            (omega (
-              arith,
-              no-lt (lowest (length rows) (wide rows)) (length rows) e,
-              lowest-le (length rows) (wide rows) v l (le→leb (2 ^ length rows) (getD rows v 0) (omega arith)),
-            ))
+-- its rows fit
+fit-asked : (rows : List ℕ) (kept : ℕ) → first (askLines rows kept) ≡ none → RowsFit rows
+fit-asked rows kept e =
+    let rest = keptOutside (length rows) kept ∷ [] in
+    outside-off rows (first-off (outside rows) rest (first-rest (tooMany (length rows)) (outside rows ∷ rest) e))
 
 -- ---- the answer is right
 
@@ -170,13 +121,10 @@ ask-meets rows kept nodes memo = go (first (askLines rows kept)) refl
         → AskCases o rows kept nodes memo (askBy o rows kept (capacity nodes)) (after o nodes (emptied nodes)) (after o memo (zeroed memo))
     go (some r) e = (refl, refl, refl)
     go none e =
-        let fit : RowsFit rows = valid rows kept e .fit in
+        let fit : RowsFit rows = fit-asked rows kept e in
         (answer-right rows kept (capacity nodes) fit (componentsOf rows) (components-found rows fit), refl, refl)
 
 -- ---- any two answers that the promise allows are equal
-
-refusal-same : (r s : Refusal) → r .number ≡ s .number → r .place ≡ s .place → r ≡ s
-refusal-same r s p q = λ i. record { number = p i; place = q i }
 
 pub answer-unique : (rows : List ℕ) (kept room : ℕ) (a b : Asked) → AskAnswer rows kept room a → AskAnswer rows kept room b → a ≡ b
 answer-unique rows kept room (Yes m) (Yes k) p q = ap Yes (answered-unique (edge rows) (length rows) room m k (p .0) (q .0))

@@ -10,7 +10,7 @@ use lib.Count.{ones}
 use lib.Dec.{T}
 use lib.ListN.{length, getD, replicate, getD-replicate}
 use Rattle.masks.specs.Sets.{bit, number}
-use Rattle.masks.proofs.Tests.{T-true, T-left, T-no}
+use Rattle.masks.proofs.Tests.{T-true, T-false}
 use Rattle.graphs.specs.Graph.{edge, Of}
 use Rattle.graphs.specs.Components.{Component, inside}
 use Rattle.graphs.specs.Work.{Sound}
@@ -58,7 +58,7 @@ module _ (rows : List ℕ) (C : ℕ) (sound : Sound rows) (comp : Component (edg
 
   -- the members of a set below n are those below 64
   below : (S : ℕ) → ((v : ℕ) → T (bit S v) → v < n) → (w : ℕ) → n ≤ w → bit S w ≡ false
-  below S h w l = T-left (bit S w) (T-no (bit S w) (λ t. let k : w < n = h w t in omega arith))
+  below S h w l = T-false (bit S w) (λ t. let k : w < n = h w t in omega arith)
 
   each-members : (S : ℕ) → ((v : ℕ) → T (bit S v) → v < n) → each 64 (bit S) ≡ each n (bit S)
   each-members S h = each-skip (bit S) n 64 (sound .few) (λ w l k. below S h w l)

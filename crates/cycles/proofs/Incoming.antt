@@ -15,7 +15,8 @@ use Rattle.masks.proofs.Members.{cut-same, cut-other}
 use Rattle.masks.proofs.Nexts.{onward, Next, next-is, next-after}
 use Rattle.graphs.specs.Graph.{edge}
 use Rattle.graphs.specs.Components.{inside}
-use Rattle.graphs.proofs.InPlace.{zeros, zeros-row}
+use Rattle.graphs.proofs.Lists.{all-alike}
+use Rattle.graphs.proofs.InPlace.{zeros}
 use Rattle.graphs.proofs.Turns.{Rowed, rowed-none, rowed-set, rowed-skip, rowed-all}
 
 -- r has the in-neighbours of v
@@ -61,7 +62,7 @@ module _ (rows : List ℕ) (C : ℕ) where
         bounded = x .bounded;
         member = λ k. x .found k .1;
         rowed =
-            rowed-skip (Incoming rows C) (zeros 64) i v found (next-after l x) (λ u j k. incoming-none rows C u (x .passed u j k) _ (zeros-row 64 u)) r;
+            rowed-skip (Incoming rows C) (zeros 64) i v found (next-after l x) (λ u j k. incoming-none rows C u (x .passed u j k) _ (all-alike 0 64 u)) r;
       }
 
   pub set-first : (v : ℕ) → v ≡ lowest 64 (onward C 0) → Setting rows C v (zeros 64)
@@ -77,4 +78,4 @@ module _ (rows : List ℕ) (C : ℕ) where
       → (u w : ℕ) → bit (getD found u 0) w ≡ inside (edge rows) C w u
   set-all v found few inner l s =
       rowed-all (Incoming rows C) (zeros 64) v found
-      (λ u k. incoming-none rows C u (λ t. let j : u < length rows = inner u t in omega arith) _ (zeros-row 64 u)) (s .rowed)
+      (λ u k. incoming-none rows C u (λ t. let j : u < length rows = inner u t in omega arith) _ (all-alike 0 64 u)) (s .rowed)

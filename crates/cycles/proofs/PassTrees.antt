@@ -2,19 +2,19 @@
 -- and of the result. Their functions are those of the definitions. Shown by induction on the list and on the number of passes. Assumes nothing.
 use mathlib.Core.Path.{_≡_, refl, sym, ap, ap₂, _∙_, subst, fun-ext}
 use mathlib.Core.Logic.{_≢_, inl, inr, ⊎-elim, _↔_}
-use mathlib.Core.Bool.{Bool, true, false, not, _&&_, _||_}
+use mathlib.Core.Bool.{Bool, true, false, not, _&&_, _||_, or-assoc, or-false}
 use mathlib.Core.List.{List, [], _∷_, _++_, map, map-map}
 use Prim.Native.Nat.{ℕ, zero, suc, _≤_, _<_}
 use native.Mathlib.Omega.{arith}
 use native.Mathlib.Decide.{ℕ-discrete, decLt}
 use lib.Dec.{T}
-use lib.ListN.{length, getD, set, replicate, length-append, length-set, length-replicate, getD-replicate, List·getD-append, List·getD-eq-default}
+use lib.ListN.{length, getD, set, replicate, length-append, length-set, length-replicate, List·getD-append, List·getD-eq-default}
 use lib.Seq.{getD-append-seam, getD-set-same, getD-set-other}
 use Rattle.masks.specs.Sets.{bit, pick}
-use Rattle.masks.proofs.Tests.{T-and, and-T, T-or, or-l, or-r, T-left, T-no, iff-eq}
+use Rattle.masks.proofs.Tests.{T-and, and-T, T-or, or-l, or-r, T-false, iff-eq}
 use Rattle.graphs.specs.Graph.{Of, Differ}
 use Rattle.graphs.specs.Light.{left}
-use Rattle.graphs.proofs.Lists.{of?, map-append, map-ext}
+use Rattle.graphs.proofs.Lists.{of?, map-append, map-ext, all-alike}
 use Rattle.graphs.proofs.Loops.{Hits}
 use Rattle.trees.specs.Tree.{Tree, off, on, br, eval, joinT}
 use Rattle.trees.proofs.Joins.{joinT-eval}
@@ -149,21 +149,13 @@ some-any n p g h same = iff-eq (some-of (each n p) g) (any n (λ u. p u && h u))
 
 -- ---- the functions of the trees
 
-or-join : (a b c : Bool) → ((a || b) || c) ≡ (a || (b || c))
-or-join true b c = refl
-or-join false b c = refl
-
 pub orFrom-eval : (f : ℕ → Tree) (us : List ℕ) (t : Tree) (K : ℕ) → eval (orFrom t (map f us)) K ≡ (eval t K || some-of us (λ u. eval (f u) K))
 unfolding orFrom
-orFrom-eval f [] t K = or-none (eval t K)
-  where
-    or-none : (x : Bool) → x ≡ (x || false)
-    or-none true = refl
-    or-none false = refl
+orFrom-eval f [] t K = sym (or-false (eval t K))
 orFrom-eval f (u ∷ us) t K =
     orFrom-eval f us (joinT true t (f u)) K
     ∙ ap (λ x. x || some-of us (λ w. eval (f w) K)) (joinT-eval true t (f u) K)
-    ∙ or-join (eval t K) (eval (f u) K) (some-of us (λ w. eval (f w) K))
+    ∙ or-assoc (eval t K) (eval (f u) K) (some-of us (λ w. eval (f w) K))
 
 join-either : (s t : Tree) → eval (joinT true s t) ≡ either (eval s) (eval t)
 join-either s t = fun-ext (joinT-eval true s t)
@@ -249,13 +241,7 @@ module _ (E : ℕ → ℕ → Bool) (n B C : ℕ) where
         → Filled i xs (fill E n B C last xs)
     unfolding fill
     fill-is i last p [] l d below =
-        record { size = length-replicate n off; have = λ v m. absurd m; rest = λ v m. none v (decLt v n) }
-      where
-        none : (v : ℕ) → Dec (v < n) → getD (replicate n off) v off ≡ off
-        none v (yes k) = getD-replicate n v off off k
-        none v (no k) =
-            let k′ : ¬ (v < n) = k in
-            List·getD-eq-default (replicate n off) off {n = v} (omega (arith, length-replicate n off))
+        record { size = length-replicate n off; have = λ v m. absurd m; rest = λ v m. all-alike off n v }
     fill-is i last p (x ∷ xs) l d below = go (fill-is i last p xs (l .1) (d .1) (λ v m. below v (inr m)))
       where
         now : List Tree
@@ -287,7 +273,7 @@ module _ (E : ℕ → ℕ → Bool) (n B C : ℕ) where
         (back : (v : ℕ) → T (bit B v) → v < n) where
       -- a flip-flop with no edge into it is 0
       out-zero : (i v : ℕ) → (Of v xs → ⊥) → eval off ≡ F E n B (suc i) v
-      out-zero i v m = fun-ext (λ K. sym (T-left (F E n B (suc i) v K) (T-no (F E n B (suc i) v K) (λ t. into (pass-steps E n B K (suc i) v t) m))))
+      out-zero i v m = fun-ext (λ K. sym (T-false (F E n B (suc i) v K) (λ t. into (pass-steps E n B K (suc i) v t) m)))
         where
           into : {K j v : ℕ} → Pass E B K (suc j) v → (Of v xs → ⊥) → ⊥
           into (from-back {u = u} {v = v} k e b p) m = m (all u v e)
@@ -313,7 +299,7 @@ module _ (E : ℕ → ℕ → Bool) (n B C : ℕ) where
           go K (no k) =
               let k′ : ¬ (v < n) = k in
               ap (λ t. eval t K) (table-past n (λ w. pick (bit B w) on off) v (omega arith))
-              ∙ sym (T-left (bit B v) (T-no (bit B v) (λ t. let z : v < n = back v t in omega arith)))
+              ∙ sym (T-false (bit B v) (λ t. let z : v < n = back v t in omega arith))
 
       -- after k passes: the trees are those of Fk, and what was made are the listed functions of the passes
       pub record Ran (k : ℕ) (r : Run) : Type 0 where

@@ -12,7 +12,7 @@ use lib.Dec.{T}
 use lib.ListN.{length, getD, set, take, drop}
 use lib.Seq.{drop-cons, getD-take, length-take-le}
 use Rattle.masks.specs.Sets.{bit, pick, number}
-use Rattle.masks.proofs.Tests.{T-left, T-no}
+use Rattle.masks.proofs.Tests.{T-false}
 use Rattle.graphs.specs.Graph.{edge, Of}
 use Rattle.graphs.specs.Light.{left}
 use Rattle.graphs.specs.Components.{inside}
@@ -91,7 +91,7 @@ module _ (rows : List ℕ) (C : ℕ) (order : Order) (sources : List ℕ) (w : W
 
   outside : (v u : ℕ) → n ≤ u → E u v ≡ false
   outside v u l =
-      T-left (E u v) (T-no (E u v) (λ t. let k : u < n = inside-source low (w .component) u v t in omega arith))
+      T-false (E u v) (λ t. let k : u < n = inside-source low (w .component) u v t in omega arith)
 
   into-each : (v : ℕ) → each 64 (bit (row v)) ≡ each n (λ u. E u v)
   into-each v =

@@ -11,7 +11,7 @@ use lib.Bits.{bitAnd, and-le-l}
 use lib.Count.{ones}
 use lib.Dec.{T}
 use Rattle.masks.specs.Sets.{bit, those, weight}
-use Rattle.masks.proofs.Tests.{T-and, T?, T-left, T-no}
+use Rattle.masks.proofs.Tests.{T-and, T?, T-false}
 use Rattle.masks.proofs.Bits.{bit-and}
 use Rattle.masks.proofs.Those.{those-in}
 use Rattle.graphs.specs.Graph.{Loop}
@@ -30,9 +30,6 @@ use Rattle.cycles.specs.Passes.{cycle}
 use Rattle.cycles.proofs.Searches.{member-lt}
 use Rattle.cycles.proofs.Passes.{cycle-loop}
 use Rattle.cycles.proofs.Models.{cycleT, cycle-is, cycle-fine}
-
-no-true : (x : Bool) → (T x → ⊥) → x ≡ false
-no-true x h = T-left x (T-no x h)
 
 -- two tests that agree on C keep the same loops of it
 loop-agree : (E : ℕ → ℕ → Bool) (C : ℕ) (K K′ : ℕ → Bool) → ((v : ℕ) → T (bit C v) → K v ≡ K′ v) → Loop (inside E C) K → Loop (inside E C) K′
@@ -63,7 +60,7 @@ module _ {E : ℕ → ℕ → Bool} {n C : ℕ} (low : EdgesBelow E n) (comp : C
 
   -- a set meets every loop of the component exactly where it takes the tree to 0
   pub cycle-frees : (S : ℕ) → Frees (cycleT E n C) S ↔ Meets (inside E C) S
-  cycle-frees S = (λ e l. subst T e (cycle-at (left S) .1 l), λ h. no-true (at (cycleT E n C) (left S)) (λ t. h (cycle-at (left S) .0 t)))
+  cycle-frees S = (λ e l. subst T e (cycle-at (left S) .1 l), λ h. T-false (at (cycleT E n C) (left S)) (λ t. h (cycle-at (left S) .0 t)))
 
   -- what a set holds outside the component matters not
   meets-within : (S : ℕ) → Meets (inside E C) S → Meets (inside E C) (bitAnd S C)
@@ -121,7 +118,7 @@ module _ {E : ℕ → ℕ → Bool} {n C : ℕ} (low : EdgesBelow E n) (comp : C
     pub component-best-some : (S : ℕ) × (best c n (cycleT E n C) ≡ some S)
     component-best-some =
         let f = cycle-fine low comp (ones (backOf E n C)) in
-        best-empty c n (cycleT E n C) (f .good .ordered) (f .under) (no-true (at (cycleT E n C) (λ v. false)) nothing)
+        best-empty c n (cycleT E n C) (f .good .ordered) (f .under) (T-false (at (cycleT E n C) (λ v. false)) nothing)
       where
         nothing : T (at (cycleT E n C) (λ v. false)) → ⊥
         nothing t = start-kept (loop-iff (inside E C) (λ v. false) .0 (cycle-at (λ v. false) .0 t) .1)

@@ -11,7 +11,7 @@ use lib.Count.{ones}
 use lib.Dec.{T}
 use lib.ListN.{length, getD}
 use Rattle.masks.specs.Sets.{bit, lowest}
-use Rattle.masks.proofs.Tests.{T-true, T-left, T-no, T?}
+use Rattle.masks.proofs.Tests.{T-true, T-no, T?, T-false}
 use Rattle.masks.proofs.Lowest.{lowest-is}
 use Rattle.graphs.specs.Graph.{Of, Differ, Walk, edge-to, step-to}
 use Rattle.graphs.specs.Light.{left, Meets}
@@ -65,7 +65,7 @@ module _ {E : ℕ → ℕ → Bool} {n C : ℕ} (low : EdgesBelow E n) (comp : C
       let l = component-lowest comp in
       let e : lowest n (bit C) ≡ l .0 =
       lowest-is n (bit C) (l .0) (member-lt (l .0) (l .1 .holds)) (T-true (bit C (l .0)) (l .1 .holds))
-      (λ w k. T-left (bit C w) (T-no (bit C w) (λ t. let z : l .0 ≤ w = l .1 .least w t in omega arith))) in
+      (λ w k. T-false (bit C w) (λ t. let z : l .0 ≤ w = l .1 .least w t in omega arith)) in
       subst (Lowest C) (sym e) (l .1)
 
   inner-ends : (u w : ℕ) → T (inside E C u w) → T (bit C u) × T (bit C w)

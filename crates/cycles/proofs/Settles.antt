@@ -12,7 +12,7 @@ use lib.Dec.{T}
 use lib.ListN.{length, getD, set, length-set}
 use lib.Seq.{getD-set-same, getD-set-other}
 use Rattle.masks.specs.Sets.{bit, lowest}
-use Rattle.masks.proofs.Tests.{T-left, T-no}
+use Rattle.masks.proofs.Tests.{T-false}
 use Rattle.masks.proofs.Nexts.{onward, Next, next-is, next-after}
 use Rattle.graphs.specs.Graph.{Of}
 use Rattle.graphs.proofs.Lists.{Of-left, map-append}
@@ -48,7 +48,7 @@ module _ (ws₀ : List ℕ) (S : ℕ) where
       → ((w : ℕ) → w < i → T (bit S w) → Code ws (getD codes w 0) (λ K. bit K w)) → Varying ws₀ S ws codes v
   vary-to i v ws codes b e l a h =
       let x : Next S i v = next-is S i v e in
-      let out : (w : ℕ) → i ≤ w → w < v → bit S w ≡ false = λ w j k. T-left (bit S w) (T-no (bit S w) (x .passed w j k)) in
+      let out : (w : ℕ) → i ≤ w → w < v → bit S w ≡ false = λ w j k. T-false (bit S w) (x .passed w j k) in
       record {
         bounded = x .bounded;
         member = λ k. x .found k .1;

@@ -2,7 +2,7 @@
 -- next keeps it. Shown by the list of the members below u, which a walk makes longer by one. Assumes nothing.
 use mathlib.Core.Path.{_≡_, refl, sym, ap, ap₂, _∙_, subst, fun-ext}
 use mathlib.Core.Logic.{_≢_}
-use mathlib.Core.Bool.{Bool, true, false, _&&_, _||_}
+use mathlib.Core.Bool.{Bool, true, false, _&&_, _||_, or-false}
 use mathlib.Core.List.{List, [], _∷_, _++_, map, append-assoc, append-nil}
 use Prim.Native.Nat.{ℕ, zero, suc, _+_, _≤_, _<_}
 use native.Mathlib.Omega.{arith}
@@ -11,7 +11,7 @@ use native.Mathlib.Decide.{ℕ-discrete}
 use lib.Dec.{T}
 use lib.ListN.{getD}
 use Rattle.masks.specs.Sets.{bit, pick, lowest}
-use Rattle.masks.proofs.Tests.{T-true, T-left, T-no}
+use Rattle.masks.proofs.Tests.{T-true, T-false}
 use Rattle.masks.proofs.Nexts.{onward, Next, next-is, next-after}
 use Rattle.graphs.specs.Graph.{Of}
 use Rattle.graphs.proofs.Lists.{Of-left, map-append}
@@ -46,11 +46,7 @@ each-skip p a b l h =
 
 pub any-skip : (p : ℕ → Bool) (a b : ℕ) → a ≤ b → ((w : ℕ) → a ≤ w → w < b → p w ≡ false) → any b p ≡ any a p
 unfolding any
-any-skip p a b l h = climb (λ n. any n p ≡ any a p) a b l refl (λ w i j e. ap (λ x. any w p || x) (h w i j) ∙ or-none (any w p) ∙ e)
-  where
-    or-none : (x : Bool) → (x || false) ≡ x
-    or-none true = refl
-    or-none false = refl
+any-skip p a b l h = climb (λ n. any n p ≡ any a p) a b l refl (λ w i j e. ap (λ x. any w p || x) (h w i j) ∙ or-false (any w p) ∙ e)
 
 -- the list goes on
 pub each-more : (p : ℕ → Bool) (a b : ℕ) → a ≤ b → (rest : List ℕ) × (each b p ≡ each a p ++ rest)
@@ -114,13 +110,9 @@ module _ (S : ℕ) (g : ℕ → ℕ → Bool) where
       ∙ orOver-append (λ K. false) (map g (each u (bit S))) (map g (pick (bit S u) (u ∷ []) []))
       ∙ ap (λ f. orOver f (map g (pick (bit S u) (u ∷ []) []))) (orOver-is u) ∙ go (bit S u)
     where
-      or-none : (x : Bool) → x ≡ (x || false)
-      or-none true = refl
-      or-none false = refl
-
       go : (x : Bool) → orOver (anyBelow u S g) (map g (pick x (u ∷ []) [])) ≡ (λ K. anyBelow u S g K || (x && g u K))
       go true = refl
-      go false = fun-ext (λ K. or-none (anyBelow u S g K))
+      go false = fun-ext (λ K. sym (or-false (anyBelow u S g K)))
 
   -- a member more
   module _ (u : ℕ) (t : T (bit S u)) where
@@ -137,7 +129,7 @@ module _ (S : ℕ) (g : ℕ → ℕ → Bool) where
   -- from i to the next member
   module _ (i u : ℕ) (l : i ≤ u) (h : (w : ℕ) → i ≤ w → w < u → T (bit S w) → ⊥) where
     out : (w : ℕ) → i ≤ w → w < u → bit S w ≡ false
-    out w a b = T-left (bit S w) (T-no (bit S w) (h w a b))
+    out w a b = T-false (bit S w) (h w a b)
 
     pub ors-skip : orsBelow u S g ≡ orsBelow i S g
     ors-skip = ap (λ xs. ors (map g xs)) (each-skip (bit S) i u l out)

@@ -12,7 +12,7 @@ use lib.Dec.{T, T-not}
 use lib.ListN.{length, getD, length-append, List·getD-append}
 use lib.Seq.{getD-append-seam}
 use Rattle.masks.specs.Sets.{bit, pick, put, weight}
-use Rattle.masks.proofs.Tests.{T-left, T-no}
+use Rattle.masks.proofs.Tests.{T-no, T-false}
 use Rattle.masks.proofs.Weights.{weight-new, count-le}
 use Rattle.graphs.specs.Graph.{Of, Differ, Walk, edge-to, step-to}
 use Rattle.graphs.specs.Light.{left}
@@ -258,7 +258,7 @@ module _ (E : ℕ → ℕ → Bool) (n : ℕ) (P : ℕ → Bool) (ends : (u w : 
     ended-own h = ⊎-elim (λ k. inl k) (λ k. inr (k .1)) (went .own v (in-put going v) h)
 
   fewer : (going v : ℕ) → T (P v) → (T (bit going v) → ⊥) → weight (λ x. 1) n (put going v) ≡ weight (λ x. 1) n going + 1
-  fewer going v pv ng = weight-new (λ x. 1) n going v (low v pv) (T-left (bit going v) (T-no (bit going v) ng))
+  fewer going v pv ng = weight-new (λ x. 1) n going v (low v pv) (T-false (bit going v) ng)
 
   -- one visit inside another for each of the n is enough
   visit-good : (d going : ℕ) → n ≤ d + weight (λ x. 1) n going → Good going (visitL E n d going)

@@ -11,7 +11,7 @@ use lib.Dec.{T, eqb}
 use lib.ListN.{length, getD, List·getD-eq-default}
 use borrow.Author.Tests.{eq-eqb, ne-eqb}
 use Rattle.masks.specs.Sets.{bit, put, cut, lowest}
-use Rattle.masks.proofs.Tests.{T-and, and-T, T-true, T-left, T-no}
+use Rattle.masks.proofs.Tests.{T-and, and-T, T-true, T-false}
 use Rattle.masks.proofs.Bits.{bit-zero, bit-and}
 use Rattle.masks.proofs.Members.{cut-same, cut-other}
 use Rattle.masks.proofs.Nexts.{onward, Next, next-is, next-after}
@@ -33,7 +33,7 @@ pub record Gathering (rows : List ℕ) (among v u found : ℕ) : Type 0 where
 
 module _ (rows : List ℕ) (among v : ℕ) where
   out : (u : ℕ) → (T (bit among u) → ⊥) → holds rows among v u ≡ false
-  out u h = rw (T-left (bit among u) (T-no (bit among u) h))
+  out u h = rw (T-false (bit among u) h)
 
   -- from i, which was passed, to the next member
   gather-to : (i u found : ℕ) → i ≤ 64 → u ≡ lowest 64 (onward among i) → Gathered (holds rows among v) i found → Gathering rows among v u found

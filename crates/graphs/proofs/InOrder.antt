@@ -13,7 +13,7 @@ use lib.ListN.{length, getD}
 use borrow.Author.Tests.{eq-eqb}
 use Rattle.masks.specs.Sets.{bit, lowest}
 use Rattle.masks.proofs.Bits.{same-members}
-use Rattle.masks.proofs.Nexts.{onward, Next, next-is}
+use Rattle.masks.proofs.Nexts.{onward, Next, next-is, next-least}
 use Rattle.graphs.specs.Graph.{edge, Of}
 use Rattle.graphs.specs.Components.{Component, Lowest, Ascending, Components}
 use Rattle.graphs.specs.Refusals.{first, checks}
@@ -28,7 +28,7 @@ use Rattle.graphs.proofs.Components.{EdgesBelow, component-lowest, comp
 
 module _ {E : ℕ → ℕ → Bool} {v : ℕ} (C : ℕ) (small : v < 64) (around : Around E v C) where
   pub leads-one : lowest 64 (onward C 0) ≡ v → Component E C × Lowest C v
-  leads-one e = (record { member = v; on-loop = around v .0 holds .0; exact = around }, record { holds = holds; least = λ w t. least w t (decLt w v) })
+  leads-one e = (record { member = v; on-loop = around v .0 holds .0; exact = around }, record { holds = holds; least = λ w t. next-least x w (omega arith) t })
     where
       x : Next C 0 v
       x = next-is C 0 v (sym e)
@@ -36,14 +36,8 @@ module _ {E : ℕ → ℕ → Bool} {v : ℕ} (C : ℕ) (small : v < 64) (around
       holds : T (bit C v)
       holds = x .found small .1
 
-      least : (w : ℕ) → T (bit C w) → Dec (w < v) → v ≤ w
-      least w t (yes l) = absurd (x .passed w (omega arith) l t)
-      least w t (no k) =
-          let k′ : ¬ (w < v) = k in
-          omega arith
-
   pub leads-none : (lowest 64 (onward C 0) ≡ v → ⊥) → (D : ℕ) → Component E D → Lowest D v → ⊥
-  leads-none k D p l = k (go (decLt v r))
+  leads-none k D p l = k (omega (arith, below, low .least r (x .found (omega (arith, below)) .1)))
     where
       r : ℕ
       r = lowest 64 (onward C 0)
@@ -57,11 +51,8 @@ module _ {E : ℕ → ℕ → Bool} {v : ℕ} (C : ℕ) (small : v < 64) (around
       low : Lowest C v
       low = subst (λ z. Lowest z v) same l
 
-      go : Dec (v < r) → r ≡ v
-      go (yes j) = absurd (x .passed v (omega arith) j (low .holds))
-      go (no j) =
-          let j′ : ¬ (v < r) = j in
-          omega (arith, low .least r (x .found (omega arith) .1))
+      below : r ≤ v
+      below = next-least x v (omega arith) (low .holds)
 
 -- one that is on no loop leads none
 pub unreached-none : {E : ℕ → ℕ → Bool} (reached : List ℕ) (v : ℕ) → Reaching E reached → bit (getD reached v 0) v ≡ false

@@ -7,15 +7,15 @@ use mathlib.Core.List.{List}
 use Prim.Native.Nat.{ℕ, suc, _+_, _≤_, _<_}
 use native.Mathlib.Omega.{arith}
 use native.Mathlib.Numerals.{add-one}
-use native.Mathlib.Decide.{decLt}
 use lib.Bits.{bitOr, or-zero-r}
 use lib.Dec.{T}
-use lib.ListN.{length, getD, set, replicate, length-replicate, getD-replicate, List·getD-eq-default}
+use lib.ListN.{length, getD, set, replicate, List·getD-eq-default}
 use Rattle.masks.specs.Sets.{bit, cut, pick}
 use Rattle.masks.proofs.Bits.{bit-zero}
 use Rattle.graphs.specs.Graph.{edge, plain, Walk}
 use Rattle.graphs.specs.Components.{every}
 use Rattle.graphs.specs.Work.{takenIn, Reaching}
+use Rattle.graphs.proofs.Lists.{all-alike}
 use Rattle.graphs.proofs.Loops.{plain-row, plain-length}
 use Rattle.graphs.proofs.Reach.{through-row, closure, closure-length, edge-reaches}
 use Rattle.graphs.proofs.Turns.{Rowed, rowed-set, rowed-skip, rowed-all}
@@ -23,16 +23,6 @@ use Rattle.graphs.proofs.Turns.{Rowed, rowed-set, rowed-skip, rowed-all
 -- the rows of an empty array
 abbrev pub zeros : ℕ → List ℕ
 zeros k = replicate k 0
-
-pub zeros-row : (k u : ℕ) → getD (zeros k) u 0 ≡ 0
-zeros-row k u = go (decLt u k)
-  where
-    go : Dec (u < k) → getD (zeros k) u 0 ≡ 0
-    go (yes l) = getD-replicate k u 0 0 l
-    go (no j) =
-        let j′ : ¬ (u < k) = j in
-        let m : length (zeros k) ≡ k = length-replicate k 0 in
-        List·getD-eq-default (zeros k) 0 (omega arith)
 
 -- ---- the rows with self edges dropped
 
@@ -47,7 +37,7 @@ plain-past : (rows : List ℕ) (u : ℕ) → length rows ≤ u → getD (plain r
 plain-past rows u l = List·getD-eq-default (plain rows) 0 (omega (arith, plain-length 0 rows))
 
 pub plain-all : (rows found : List ℕ) (v : ℕ) → length rows ≤ v → Rowed (Plain rows) (zeros 64) v found → (u : ℕ) → Plain rows u (getD found u 0)
-plain-all rows found v l r = rowed-all (Plain rows) (zeros 64) v found (λ u k. zeros-row 64 u ∙ sym (plain-past rows u (omega arith))) r
+plain-all rows found v l r = rowed-all (Plain rows) (zeros 64) v found (λ u k. all-alike 0 64 u ∙ sym (plain-past rows u (omega arith))) r
 
 -- ---- one flip-flop taken in
 

@@ -5,7 +5,7 @@ use mathlib.Core.List.{List, [], _∷_, _++_, map}
 use Prim.Native.Nat.{ℕ, zero, suc, _≤_, _<_}
 use native.Mathlib.Omega.{arith}
 use native.Mathlib.Decide.{ℕ-discrete}
-use lib.ListN.{length, getD, set}
+use lib.ListN.{length, getD, set, replicate}
 use Rattle.graphs.specs.Graph.{Of, Differ}
 
 -- ---- different members, counted
@@ -74,6 +74,12 @@ pub set-zero : (rows : List ℕ) (i : ℕ) → getD (set rows i 0) i 0 ≡ 0
 set-zero [] i = refl
 set-zero (r ∷ rows) zero = refl
 set-zero (r ∷ rows) (suc i) = set-zero rows i
+
+-- a row of a list that is the same all over, and past its end
+pub all-alike : {A : Type 0} (a : A) (k i : ℕ) → getD (replicate k a) i a ≡ a
+all-alike a zero i = refl
+all-alike a (suc k) zero = refl
+all-alike a (suc k) (suc i) = all-alike a k i
 
 pub map-row : (f : ℕ → ℕ) → f 0 ≡ 0 → (rows : List ℕ) (i : ℕ) → getD (map f rows) i 0 ≡ f (getD rows i 0)
 map-row f e [] i = sym e

@@ -50,6 +50,10 @@ first-some (l ∷ ls) ms r e = go (l .given) refl (first-some ls ms r) e
     go true g ih e = rw g (rw g at e)
     go false g ih e = rw g (ih (rw g at e))
 
+-- two refusals with the same number and place
+pub refusal-same : (r s : Refusal) → r .number ≡ s .number → r .place ≡ s .place → r ≡ s
+refusal-same r s p q = λ i. record { number = p i; place = q i }
+
 -- n rows, n at most 64: only refusal 3 is left
 pub checks-rows : (rows : List ℕ) (n : ℕ) → length rows ≡ n → n ≤ 64 → first (checks rows n) ≡ first (outside rows ∷ [])
 checks-rows rows n e h =

@@ -72,6 +72,16 @@ next-is m from r e = subst (Next m from) (sym e) (go (lowest-cases 64 (onward m 
         let e : k ≡ 64 = r .0 in
         record { bounded = omega arith; found = λ l. absurd (omega arith); passed = λ w i j. passed w i j (omega arith) }
 
+-- no member comes before it
+pub next-least : {m from r : ℕ} → Next m from r → (w : ℕ) → from ≤ w → T (bit m w) → r ≤ w
+next-least {m} {from} {r} x w l t = go (decLt w r)
+  where
+    go : Dec (w < r) → r ≤ w
+    go (yes k) = absurd (x .passed w l k t)
+    go (no k) =
+        let k′ : ¬ (w < r) = k in
+        omega arith
+
 pub next-after : {m from r : ℕ} → from ≤ 64 → Next m from r → from ≤ r
 next-after {m} {from} {r} l x = go (decLt r 64)
   where

@@ -5,8 +5,8 @@ use mathlib.Core.List.{List, [], _∷_, _++_}
 use Prim.Native.Nat.{ℕ, zero, suc, _+_, _≤_, _<_, min}
 use native.Mathlib.Omega.{arith}
 use native.Mathlib.Numerals.{add-one}
-use lib.ListN.{length, getD, set, take, drop, replicate, length-set, length-take, length-drop, length-append, length-replicate, getD-replicate, drop-of-length-le}
-use lib.Seq.{drop-at, ext-getD, getD-set-same, getD-set-other}
+use lib.ListN.{length, getD, set, take, drop, replicate, length-set, length-take, length-replicate, getD-replicate, drop-of-length-le}
+use lib.Seq.{drop-at, length-front, ext-getD, getD-set-same, getD-set-other}
 use Rattle.nodes.specs.Rooms.{capacity, emptied, zeroed, used}
 use Rattle.nodes.proofs.Slots.{same-or, lt-or-le}
 
@@ -88,10 +88,6 @@ module _ (ws : List ℕ) (count s : ℕ) (c : Counting ws count s) where
 pub front-length : (ws : List ℕ) (n : ℕ) → n ≡ capacity ws → n ≡ length (take n ws)
 front-length ws n e = simp length-take (omega arith)
 
--- a room whose first k words were lent is as long as before
-pub lent-length : (k : ℕ) (ws front : List ℕ) → length front ≡ length (take k ws) → length (front ++ drop k ws) ≡ length ws
-lent-length k ws front e = length-append front (drop k ws) ∙ omega (arith, e, length-take k ws, length-drop k ws)
-
 -- past those that count
 past : (ws : List ℕ) (n : ℕ) → n ≡ capacity ws → drop n ws ≡ drop 65536 ws
 past ws n e =
@@ -104,7 +100,7 @@ module _ (ws front : List ℕ) (n : ℕ) (e : n ≡ capacity ws) where
   lent-emptied f = ap₂ (λ (k : ℕ) xs. replicate (min k 65536) 0 ++ xs) same (sym (past (front ++ drop n ws) n (omega (arith, same))) ∙ drop-at front (drop n ws) n (f ∙ sym (front-length ws n e)) ∙ past ws n e)
     where
       same : length (front ++ drop n ws) ≡ length ws
-      same = lent-length n ws front f
+      same = length-front ws front n f
 
   -- they are cleared, and the rest is not
   pub emptied-is : front ≡ zeroed (take n ws) → front ++ drop n ws ≡ emptied ws

@@ -8,7 +8,7 @@ use Prim.Native.Nat.{ℕ, _≤_, _<_}
 use native.Mathlib.Omega.{arith}
 use lib.ListN.{length, getD, replicate, length-replicate}
 use Rattle.graphs.specs.Graph.{Of}
-use Rattle.graphs.proofs.Lists.{Of-left, Of-right}
+use Rattle.graphs.proofs.Lists.{Of-left, Of-right, all-alike}
 use Rattle.trees.specs.Tree.{Tree, eval, subs, subsAll, once}
 use Rattle.trees.specs.Need.{Need}
 use Rattle.trees.proofs.Canonical.{Good}
@@ -20,7 +20,6 @@ use Rattle.nodes.specs.declared.Made.{Made}
 use Rattle.nodes.specs.declared.Made.the-variants.{At, Full}
 use Rattle.nodes.proofs.Slots.{same-or}
 use Rattle.nodes.proofs.Standing.{stands-grows, stands-good}
-use Rattle.nodes.proofs.Remembering.{zeros}
 use Rattle.nodes.proofs.Counting.{full-used, used-lt, used-is, part-slot}
 
 -- ---- rooms and lists
@@ -35,7 +34,7 @@ room-none ws l z =
     }
 
 pub room-zero : (n : ℕ) → n ≤ 65536 → Room (replicate n 0) []
-room-zero n l = room-none (replicate n 0) (omega (arith, length-replicate {A = ℕ} n 0)) (zeros n)
+room-zero n l = room-none (replicate n 0) (omega (arith, length-replicate {A = ℕ} n 0)) (all-alike 0 n)
 
 -- every listed tree is good
 pub room-good : (ws : List ℕ) (ts : List Tree) → Room ws ts → AllGood ts

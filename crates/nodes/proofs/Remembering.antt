@@ -6,8 +6,9 @@ use mathlib.Core.Bool.{Bool, true, false}
 use mathlib.Core.List.{List}
 use Prim.Native.Nat.{ℕ, min, max, _^_, _≤_, _<_}
 use native.Mathlib.Omega.{arith}
-use lib.ListN.{length, getD, set, replicate, length-replicate, getD-replicate, List·getD-eq-default}
+use lib.ListN.{length, getD, set, replicate, List·getD-eq-default}
 use lib.Seq.{getD-set-same, getD-set-other, set-out}
+use Rattle.graphs.proofs.Lists.{all-alike}
 use Rattle.trees.specs.Tree.{Tree, joinT}
 use Rattle.trees.proofs.Joins.{joinT-comm}
 use Rattle.nodes.specs.Codes.{Stands, Table, Grows}
@@ -57,12 +58,8 @@ pub memo-none : (ws ms : List ℕ) → ((i : ℕ) → getD ms i 0 ≡ 0) → Mem
 memo-none ws ms z i k = absurd (k (z i))
 
 -- a room of zeros
-pub zeros : (n i : ℕ) → _≡_ {A = ℕ} (getD (replicate n 0) i 0) 0
-zeros n i =
-    ⊎-elim (λ l. getD-replicate n i 0 0 l) (λ g. List·getD-eq-default (replicate n 0) 0 (omega (arith, length-replicate {A = ℕ} n 0))) (lt-or-le i n)
-
 pub memo-zero : (ws : List ℕ) (n : ℕ) → Memo ws (replicate n 0)
-memo-zero ws n = memo-none ws (replicate n 0) (zeros n)
+memo-zero ws n = memo-none ws (replicate n 0) (all-alike 0 n)
 
 entry-grows : {ws ws′ : List ℕ} {w : ℕ} → Grows ws ws′ → Entry ws w → Entry ws′ w
 entry-grows g e =

@@ -142,6 +142,10 @@ same-codes {s = s} {t = t} T p q = (
 pub level-node : (ws : List ℕ) (c : ℕ) → 2 ≤ c → level ws c ≡ variableOf (word ws c)
 level-node ws c p = rw (le-ltb c 2 p)
 
+-- of a branch
+pub level-br : {ws : List ℕ} {c v : ℕ} {l h : Tree} → Stands ws c (br v l h) → level ws c ≡ v
+level-br {ws} {c} (is-br p z e sl sh) = level-node ws c p ∙ e
+
 pub level-above : {ws : List ℕ} {k c : ℕ} {t : Tree} → k ≤ variables → Stands ws c t → Ordered k t → k ≤ level ws c
 level-above {c = c} l (is-off e) o = rw (lt-ltb c 2 (omega arith)) l
 level-above {c = c} l (is-on e) o = rw (lt-ltb c 2 (omega arith)) l

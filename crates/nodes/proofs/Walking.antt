@@ -6,18 +6,14 @@ use Prim.Native.Nat.{ℕ, suc, _-_, _≤_, _<_}
 use native.Mathlib.Omega.{arith}
 use Rattle.masks.specs.Sets.{bit, pick}
 use Rattle.trees.specs.Tree.{Tree, br, eval, Ordered}
-use Rattle.nodes.specs.Codes.{variables, level, Stands, is-br, Held, Table}
+use Rattle.nodes.specs.Codes.{variables, level, Stands, Held, Table}
 use Rattle.nodes.specs.Promise.{Shaped, ValuePromise}
 use Rattle.nodes.specs.declared.Node.{Node}
 use Rattle.masks.specs.declared.Vertex.{Vertex}
 use Rattle.nodes.specs.declared.Shape.the-variants.{Off, On, Branch}
-use Rattle.nodes.proofs.Standing.{stands-one, Sides, node-sides, level-node, level-above}
+use Rattle.nodes.proofs.Standing.{stands-one, Sides, node-sides, level-br, level-above}
 
 -- ---- one step down
-
--- the level of a branch
-level-br : {ws : List ℕ} {c v : ℕ} {l h : Tree} → Stands ws c (br v l h) → level ws c ≡ v
-level-br {ws} {c} (is-br p z e sl sh) = level-node ws c p ∙ e
 
 -- a code that looks like a branch: its variable is one of a flip-flop, and fewer remain for its branches
 module _ {ws : List ℕ} {c : ℕ} {t : Tree} (T : Table ws) (s : Stands ws c t) (v : Vertex) (low high : Node) (d : Shaped ws (Branch v low high) t) where

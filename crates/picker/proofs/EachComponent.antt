@@ -21,7 +21,7 @@ use Rattle.graphs.proofs.Parts.{joined}
 use Rattle.graphs.proofs.Lightest.{lightest-unique}
 use Rattle.graphs.proofs.Components.{EdgesBelow, componentsOf, lightest-parts}
 use Rattle.graphs.proofs.InOrder.{Walking, walking-first, walking-part, walking-more, walking-all, met-more, sound-components, sound-below}
-use Rattle.cycles.specs.Needs.{Fit, TooLarge}
+use Rattle.cycles.specs.Needs.{Fit}
 use Rattle.cycles.proofs.Fits.{fit-more, excess-after}
 use Rattle.picker.specs.Promise.{costOf}
 use Rattle.picker.specs.Work.{PartRight, PartTooLarge, PartPromise, GraphRight, GraphPromise}

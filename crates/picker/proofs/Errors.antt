@@ -10,7 +10,7 @@ use native.Mathlib.Omega.{arith}
 use lib.Count.{ones}
 use lib.Dec.{T}
 use lib.ListN.{length}
-use Rattle.masks.specs.Sets.{bit, put, lowest, weight}
+use Rattle.masks.specs.Sets.{weight}
 use Rattle.masks.proofs.Bits.{bit-zero}
 use Rattle.graphs.specs.Graph.{edge, Loop}
 use Rattle.graphs.specs.Light.{left, Meets, Lightest}
@@ -22,8 +22,7 @@ use Rattle.graphs.proofs.Lightest.{lightest-unique}
 use Rattle.graphs.proofs.Components.{componentsOf, components-found}
 use Rattle.graphs.proofs.Tables.{checks-passed}
 use Rattle.trees.specs.Best.{best}
-use Rattle.cycles.specs.Search.{targets, visit, backOf}
-use Rattle.cycles.specs.Passes.{each}
+use Rattle.cycles.specs.Search.{backOf}
 use Rattle.cycles.proofs.Each.{each-ones}
 use Rattle.cycles.proofs.Models.{cycleAfter}
 use Rattle.cycles.proofs.Blocks.{blockA}
@@ -127,18 +126,12 @@ pub record FourBits : Type 0 where
   pub nothing : (costs : List ℕ) → afterPasses 0 (costOf costs) (edge all17) 17 131071 ≡ none
   pub wrong : (costs : List ℕ) (room cost need : ℕ) → Right all17 costs room 0 cost need → ⊥
 
-sixteen : ones (backOf (edge all17) 17 131071) ≡ 16
-unfolding visit targets edge bit put lowest each
-sixteen =
-    let e : backOf (edge all17) 17 131071 ≡ 131070 = refl in
-    ap ones e ∙ sym (each-ones 17 131070 (omega arith))
-
 pub four-bits : FourBits
 unfolding computing
 four-bits =
     record {
       parts = refl;
-      size = sixteen;
+      size = let e : backOf (edge all17) 17 131071 ≡ 131070 = refl in ap ones e ∙ sym (each-ones 17 131070 (omega arith));
       count = refl;
       nothing = λ costs. refl;
       wrong = λ costs room cost need. empty-wrong all17 costs room cost need (there-and-back all17 tt tt);

@@ -4,15 +4,16 @@ use mathlib.Core.Path.{_≡_, refl, sym, ap, _∙_, subst}
 use mathlib.Core.Logic.{_≢_}
 use mathlib.Core.List.{List}
 use mathlib.Core.Option.{some}
-use Prim.Native.Nat.{ℕ, zero, suc, _+_, _*_, _/_, _^_, _<_}
+use Prim.Native.Nat.{ℕ, _+_, _*_, _/_, _^_, _<_}
 use native.Mathlib.Omega.{arith}
 use native.Mathlib.Nat.{mul-le-mul-right, mul-lt-mul-of-pos-right}
 use native.Mathlib.Decide.{ℕ-discrete}
-use lib.ListN.{length, getD, set, replicate, length-set}
+use lib.ListN.{length, getD, set, length-set}
 use lib.Seq.{getD-set-same, getD-set-other}
 use Rattle.masks.specs.Sets.{number, weight}
 use Rattle.masks.specs.declared.Mask.{Mask}
 use Rattle.masks.proofs.Weights.{weight-none}
+use Rattle.graphs.proofs.Lists.{all-alike}
 use Rattle.trees.specs.Tree.{Tree, off}
 use Rattle.nodes.specs.Codes.{Stands, is-off, is-on, is-br}
 use Rattle.nodes.specs.Rooms.{zeroed}
@@ -40,11 +41,6 @@ cost-noted code k l = omega arith
 
 -- ---- a zeroed room
 
-zero-at : (k i : ℕ) → _≡_ {A = ℕ} (getD (replicate k 0) i 0) 0
-zero-at zero i = refl
-zero-at (suc k) zero = refl
-zero-at (suc k) (suc i) = zero-at k i
-
 stands-zero : {ws : List ℕ} {c : ℕ} {t : Tree} → c ≡ 0 → Stands ws c t → t ≡ off
 stands-zero e (is-off z) = refl
 stands-zero e (is-on z) = absurd (omega arith)
@@ -53,7 +49,7 @@ stands-zero e (is-br two k f l h) = absurd (omega arith)
 pub memo-none : (c : ℕ → ℕ) (n : ℕ) (ws old ms : List ℕ) → ms ≡ zeroed old → Memo c n ws ms
 unfolding codeIn costIn
 memo-none c n ws old ms e i t s =
-    let at : (j : ℕ) → getD ms j 0 ≡ 0 = λ j. ap (λ xs. getD xs j 0) e ∙ zero-at (length old) j in
+    let at : (j : ℕ) → getD ms j 0 ≡ 0 = λ j. ap (λ xs. getD xs j 0) e ∙ all-alike 0 (length old) j in
     rw (at (2 * i), at (2 * i + 1), stands-zero (ap codeIn (at (2 * i))) s) (record { set = refl; cost = sym (weight-none c n) })
 
 -- ---- reading

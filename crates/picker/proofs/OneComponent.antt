@@ -1,19 +1,18 @@
 -- One component: an emptied room is fit to build its function in, the built room is fit for the walk, and the set that the walk finds is the lightest that
 -- meets every loop of the component, with the words in use as its need. Where the room was too small, so is it for the need. Assumes nothing.
-use mathlib.Core.Path.{_≡_, sym, ap, _∙_, subst}
+use mathlib.Core.Path.{_≡_, sym, _∙_, subst}
 use mathlib.Core.Bool.{Bool}
 use mathlib.Core.List.{List}
 use mathlib.Core.Option.{some}
 use Prim.Native.Nat.{ℕ, _≤_, _<_}
 use native.Mathlib.Omega.{arith}
-use native.Mathlib.Decide.{decLt}
 use lib.Count.{ones}
 use lib.Dec.{T}
 use lib.ListN.{length, take, length-take}
 use Rattle.masks.specs.Sets.{bit, those, lowest, number}
 use Rattle.masks.specs.declared.Mask.{Mask}
 use Rattle.masks.proofs.Those.{those-in}
-use Rattle.masks.proofs.Nexts.{onward, Next, next-is}
+use Rattle.masks.proofs.Nexts.{onward, Next, next-is, next-least}
 use Rattle.graphs.specs.Graph.{edge}
 use Rattle.graphs.specs.Light.{left}
 use Rattle.graphs.specs.Components.{Component, Lowest}
@@ -36,7 +35,7 @@ use Rattle.cycles.proofs.Parts.{part-built}
 use Rattle.cycles.proofs.Picks.{component-best-some}
 use Rattle.picker.specs.Promise.{costOf}
 use Rattle.picker.specs.Work.{Ready, PartRight, PartTooLarge, Standing, LightestPromise}
-use Rattle.picker.proofs.Picks.{found, bestOf, best-lightest}
+use Rattle.picker.proofs.Picks.{bestOf, best-lightest}
 
 -- ---- a tree with the values of the cycle function has the best set of the component's
 
@@ -62,7 +61,7 @@ module _ {E : ℕ → ℕ → Bool} {n C : ℕ} (low : EdgesBelow E n) (comp : C
 -- ---- the lowest flip-flop of a component, found as its first member
 
 first-lowest : {E : ℕ → ℕ → Bool} {n C : ℕ} → EdgesBelow E n → n ≤ 64 → Component E C → (v : ℕ) → v ≡ lowest 64 (onward C 0) → Lowest C v
-first-lowest {E} {n} {C} low few comp v e = record { holds = x .found inner .1; least = λ w t. least w t (decLt w v) }
+first-lowest {E} {n} {C} low few comp v e = record { holds = x .found inner .1; least = λ w t. next-least x w (omega arith) t }
   where
     x : Next C 0 v
     x = next-is C 0 v e
@@ -70,17 +69,11 @@ first-lowest {E} {n} {C} low few comp v e = record { holds = x .found inner .1; 
     d : (u : ℕ) × Lowest C u
     d = component-lowest comp
 
-    least : (w : ℕ) → T (bit C w) → Dec (w < v) → v ≤ w
-    least w t (yes l) = absurd (x .passed w (omega arith) l t)
-    least w t (no k) =
-        let k′ : ¬ (w < v) = k in
-        omega arith
-
     inner : v < 64
     inner =
         let h : T (bit C (d .0)) = d .1 .holds in
         let l : d .0 < n = source-lt (λ a b t. low a b t .0) (component-at comp (d .0) h (d .0) .0 h .0) in
-        omega (arith, least (d .0) h (decLt (d .0) v))
+        omega (arith, next-least x (d .0) (omega arith) h)
 
 -- ---- one component of a block
 

@@ -13,7 +13,7 @@ use lib.ListN.{length, getD}
 use Rattle.masks.specs.Sets.{bit}
 use Rattle.masks.proofs.Tests.{T-and}
 use Rattle.graphs.specs.Graph.{edge, Of, Walk, edge-to, step-to}
-use Rattle.graphs.specs.Light.{left, Lightest}
+use Rattle.graphs.specs.Light.{Lightest}
 use Rattle.graphs.specs.Components.{every, Component, Components, inside}
 use Rattle.graphs.proofs.Loops.{RowsFit}
 use Rattle.graphs.proofs.Lists.{Of-from}

@@ -11,6 +11,7 @@ use Rattle.graphs.specs.Graph.{edge}
 use Rattle.graphs.specs.Refusals.{first, checks}
 use Rattle.graphs.specs.declared.Refusal.{Refusal}
 use Rattle.graphs.proofs.Lightest.{lightest-unique}
+use Rattle.graphs.proofs.Tables.{refusal-same}
 use Rattle.masks.proofs.Numbers.{number-inj}
 use Rattle.nodes.specs.Rooms.{capacity}
 use Rattle.cycles.proofs.Fits.{answered-unique, too-large-unique, answered-or-too-large}
@@ -28,9 +29,6 @@ module _ (rows costs : List ℕ) (room : ℕ) where
       let h : m ≡ i = answered-unique (edge (leftRows rows costs)) (length rows) room m i (p .largest) (q .largest) in
       λ x. Set (f x) (g x) (h x)
 
-  refusal-unique : (r s : Refusal) → r .number ≡ s .number → r .place ≡ s .place → r ≡ s
-  refusal-unique r s p q = λ x. record { number = p x; place = q x }
-
   pub answer-unique : (a b : Picked) → PickAnswer rows costs room a → PickAnswer rows costs room b → a ≡ b
   answer-unique (Set a k m) (Set b j i) p q = set-unique a b k j m i p q
   answer-unique (Set a k m) (Refused s) p q =
@@ -39,7 +37,7 @@ module _ (rows costs : List ℕ) (room : ℕ) where
       absurd (answered-or-too-large (edge (leftRows rows costs)) (length rows) room i (r .place) (q .largest) (p .1))
   answer-unique (Refused r) (Refused s) p q =
       ap Refused
-      (refusal-unique r s (p .0 ∙ sym (q .0)) (too-large-unique (edge (leftRows rows costs)) (length rows) room (r .place) (s .place) (p .1) (q .1)))
+      (refusal-same r s (p .0 ∙ sym (q .0)) (too-large-unique (edge (leftRows rows costs)) (length rows) room (r .place) (s .place) (p .1) (q .1)))
 
 pub pick-unique : (rows costs nodes memo : List ℕ) (a b : Picked) (nodes₁ nodes₂ memo₁ memo₂ : List ℕ)
     → PickPromise rows costs nodes memo a nodes₁ memo₁ → PickPromise rows costs nodes memo b nodes₂ memo₂ → (a ≡ b) × (nodes₁ ≡ nodes₂) × (memo₁ ≡ memo₂)

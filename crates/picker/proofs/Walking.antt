@@ -13,12 +13,12 @@ use Rattle.masks.proofs.Weights.{weight-none}
 use Rattle.trees.specs.Tree.{Tree, off, on, br, Ordered}
 use Rattle.trees.specs.Best.{Frees, Under, held, lighter, best}
 use Rattle.trees.proofs.Bests.{Answer, best-answer}
-use Rattle.nodes.specs.Codes.{variables, level, Stands, is-br, Held}
+use Rattle.nodes.specs.Codes.{variables, level, Stands, Held}
 use Rattle.nodes.specs.Promise.{LookPromise}
 use Rattle.nodes.specs.declared.Node.{Node}
 use Rattle.nodes.specs.declared.Shape.{Shape}
 use Rattle.nodes.specs.declared.Shape.the-variants.{Off, On, Branch}
-use Rattle.nodes.proofs.Standing.{stands-one, stands-small, level-node, level-above}
+use Rattle.nodes.proofs.Standing.{stands-one, stands-small, level-br, level-above}
 use Rattle.picker.specs.Promise.{costOf}
 use Rattle.picker.specs.Work.{setOf, Priced, Lacking, Told, LighterPromise, Memo, Small, Recalled, Remembered, Walkable, Walked}
 use Rattle.picker.specs.declared.best.Best.{Best}
@@ -85,9 +85,6 @@ branching {ws} {ms} {costs} {code} {r} {v} {lo} {hi} w e p =
       whole = subst (Stands ws code) (s .2) (w .standing .stands);
       variable = u .0;
     }
-
-level-br : {ws : List ℕ} {c v : ℕ} {l h : Tree} → Stands ws c (br v l h) → level ws c ≡ v
-level-br {ws} {c} (is-br p z e sl sh) = level-node ws c p ∙ e
 
 ordered-from : (b : ℕ) (t : Tree) → Ordered b t → Ordered 0 t
 ordered-from b off o = tt

@@ -1,5 +1,5 @@
 -- `ask` meets its contract: the checks, the kept mask, the answer in the part of the room that counts, and both rooms emptied. Assumes nothing.
-use mathlib.Core.Path.{_≡_, _∙_, sym}
+use mathlib.Core.Path.{_≡_, _∙_}
 use mathlib.Core.Bool.{not}
 use Prim.Native.Nat.{_^_}
 use native.Mathlib.Omega.{arith}

@@ -9,7 +9,7 @@ use borrow.Author.Tests.{not-true, not-false}
 use lib.ListN.{length}
 use borrow.Fn.Kinds.{In}
 use borrow.Fn.PlainCycle.{Measures, is, falls, and}
-use Rattle.masks.specs.Sets.{put, number}
+use Rattle.masks.specs.Sets.{number}
 use Rattle.masks.proofs.Nexts.{next-is, next-after}
 use Rattle.cycles.specs.Work.{size, Marked, VisitDone}
 use Rattle.cycles.proofs.Visiting.{Looking, look-first, turn-mark, turn-over, turn-visit}
