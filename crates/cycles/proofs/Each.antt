@@ -3,7 +3,7 @@
 use mathlib.Core.Path.{_≡_, refl, sym, ap, ap₂, _∙_, subst}
 use mathlib.Core.Logic.{_≢_, inl, ⊎-elim, _↔_}
 use mathlib.Core.Bool.{Bool, true, false, _||_}
-use mathlib.Core.List.{List, [], _∷_, _++_, append-nil}
+use mathlib.Core.List.{List, [], _∷_, _++_}
 use Prim.Native.Nat.{ℕ, zero, suc, _+_, _*_, _/_, _%_, _≤_, _<_, _^_}
 use native.Mathlib.Omega.{arith}
 use native.Mathlib.Decide.{ℕ-discrete, decLt}
@@ -17,7 +17,7 @@ use Rattle.masks.proofs.Bits.{bit-low, bit-suc, bit-high}
 use Rattle.masks.proofs.Members.{cut-add, cut-other}
 use Rattle.graphs.specs.Graph.{Of, Differ}
 use Rattle.masks.proofs.Those.{members-lt}
-use Rattle.graphs.proofs.Lists.{Of-left, Of-right, Of-cases, differ-le, differ-snoc}
+use Rattle.graphs.proofs.Lists.{Of-left, Of-right, Of-cases, differ-le}
 use Rattle.cycles.specs.Passes.{any, each}
 
 -- ---- one that passes
@@ -79,15 +79,6 @@ each-to (suc n) p v l t = go (ℕ-discrete v n) (λ k. each-to n p v k t)
 
 pub each-iff : (n : ℕ) (p : ℕ → Bool) (v : ℕ) → Of v (each n p) ↔ ((v < n) × T (p v))
 each-iff n p v = (each-from n p v, λ r. each-to n p v (r .0) (r .1))
-
-pub each-differ : (n : ℕ) (p : ℕ → Bool) → Differ (each n p)
-unfolding each
-each-differ zero p = tt
-each-differ (suc n) p = go (p n) (each-differ n p)
-  where
-    go : (x : Bool) → Differ (each n p) → Differ (each n p ++ pick x (n ∷ []) [])
-    go true d = differ-snoc (each n p) n d (λ m. let l : n < n = each-from n p n m .0 in omega arith)
-    go false d = rw append-nil d
 
 pub each-ext : (n : ℕ) (p q : ℕ → Bool) → ((u : ℕ) → u < n → p u ≡ q u) → each n p ≡ each n q
 unfolding each

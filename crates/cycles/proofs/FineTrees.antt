@@ -1,6 +1,6 @@
 -- The trees of the passes are ordered and reduced, and their variables are flip-flops below n. Shown from the same of the joins, list by list. Assumes
 -- nothing.
-use mathlib.Core.Path.{refl, sym, subst}
+use mathlib.Core.Path.{refl}
 use mathlib.Core.Logic.{inl, inr}
 use mathlib.Core.Bool.{Bool, true, false}
 use mathlib.Core.List.{List, [], _∷_, _++_, map}
@@ -52,10 +52,6 @@ module _ (n : ℕ) where
   pub fine-good : (ts : List Tree) → AllFine n ts → AllGood ts
   fine-good [] f = tt
   fine-good (t ∷ ts) f = (f .0 .good, fine-good ts (f .1))
-
-  pub fine-of : (ts : List Tree) → AllFine n ts → (t : Tree) → Of t ts → Fine n t
-  fine-of (x ∷ ts) f t (inl e) = subst (Fine n) (sym e) (f .0)
-  fine-of (x ∷ ts) f t (inr m) = fine-of ts (f .1) t m
 
   pub fine-append : (ss ts : List Tree) → AllFine n ss → AllFine n ts → AllFine n (ss ++ ts)
   fine-append [] ts f g = g

@@ -34,7 +34,6 @@ held-join {k = k} or T h i s =
 pub record Cut (ws ms : List ℕ) (a b : ℕ) (p : Parts) : Type 0 where
   pub able : Joinable ws ms a b
   pub a2 : 2 ≤ a
-  pub b2 : 2 ≤ b
   pub splits : Splits ws a b p
 
 module _ {ws ms : List ℕ} {a b : ℕ} {p : Parts} (x : Cut ws ms a b p) where

@@ -15,9 +15,7 @@ use Rattle.trees.proofs.Canonical.{Good}
 use Rattle.trees.proofs.Needs.{Within, need-within, AllGood, subs-from, need-trees}
 use Rattle.nodes.specs.Rooms.{used}
 use Rattle.nodes.specs.Codes.{Stands, Grows}
-use Rattle.nodes.specs.Promise.{Fresh, Built, Short, Outcome, PartsOf, Room, Over, After}
-use Rattle.nodes.specs.declared.Made.{Made}
-use Rattle.nodes.specs.declared.Made.the-variants.{At, Full}
+use Rattle.nodes.specs.Promise.{Fresh, Built, Short, PartsOf, Room, Over}
 use Rattle.nodes.proofs.Slots.{same-or}
 use Rattle.nodes.proofs.Standing.{stands-grows, stands-good}
 use Rattle.nodes.proofs.Counting.{full-used, used-lt, used-is, part-slot}
@@ -70,11 +68,6 @@ room-short {ws} {ws′} {ts} {t} r b =
     used-lt ws′ (b .table) (t ∷ ts) (parts-more ws ws′ ts t (b .grows) (b .fresh) (r .exact)) (b .lacks .0)
     (Of-left (b .lacks .0) (subs t) (subsAll ts) (b .lacks .1)) (b .lacks .2) in
     omega (arith, full-used ws′ (b .full), b .grows .size)
-
--- what an operation does to a room that holds ts
-pub room-after : (ws ws′ : List ℕ) (ts : List Tree) (t : Tree) (r : Made) → Room ws ts → Outcome ws ws′ t r → After ws ws′ ts t r
-room-after ws ws′ ts t (At c) m o = record { room = room-built m o; grows = o .grows; stands = o .stands }
-room-after ws ws′ ts t Full m o = room-short m o
 
 -- ---- the need
 

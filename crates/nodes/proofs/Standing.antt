@@ -8,7 +8,6 @@ use native.Mathlib.Omega.{arith}
 use lib.ListN.{length, getD}
 use borrow.Author.Tests.{lt-ltb, le-ltb}
 use Rattle.trees.specs.Tree.{Tree, br, Ordered, Reduced}
-use Rattle.trees.specs.Best.{Under}
 use Rattle.trees.proofs.Canonical.{Good, Same, canon}
 use Rattle.nodes.specs.Packing.{packed, variableOf, lowOf, highOf}
 use Rattle.nodes.specs.Codes.{variables, word, level, Taken, Stands, is-off, is-on, is-br, Held, Fair, Table, Grows}
@@ -119,13 +118,6 @@ stands-ordered {ws} {c} T (is-br {v = v} {l = l} {h = h} p z e sl sh) =
 
 pub stands-good : {ws : List ℕ} {c : ℕ} {t : Tree} → Table ws → Stands ws c t → Good 0 t
 stands-good T s = record { ordered = stands-ordered T s; reduced = stands-reduced T s }
-
--- every variable is one of a flip-flop
-pub stands-under : {ws : List ℕ} {c : ℕ} {t : Tree} → Table ws → Stands ws c t → Under variables t
-stands-under T (is-off e) = tt
-stands-under T (is-on e) = tt
-stands-under {ws} {c} T (is-br {v = v} {l = l} {h = h} p z e sl sh) =
-    (node-sides {c = c} {v = v} {l = l} {h = h} T (is-br p z e sl sh) .variable, stands-under T sl, stands-under T sh)
 
 pub held : {ws : List ℕ} {c : ℕ} {t : Tree} → Table ws → Stands ws c t → Held ws 0 c
 held {t = t} T s = record { tree = t; stands = s; ordered = stands-ordered T s }

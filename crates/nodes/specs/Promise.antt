@@ -1,7 +1,7 @@
 -- What the operations on the rooms promise. Assumes nothing.
 use mathlib.Core.Path.{_≡_}
 use mathlib.Core.Bool.{Bool}
-use mathlib.Core.List.{List, _∷_}
+use mathlib.Core.List.{List}
 use Prim.Native.Nat.{ℕ, suc, min, max, _+_, _*_, _^_, _<_}
 use lib.ListN.{length, getD}
 use Rattle.masks.specs.Sets.{pick}
@@ -116,13 +116,3 @@ pub record Room (ws : List ℕ) (ts : List Tree) : Type 0 where
 -- the trees ts have more different parts than there are words: their need exceeds the capacity (`over-need`)
 abbrev pub Over : ℕ → List Tree → Type 0
 Over capacity ts = capacity < length (once (subsAll ts))
-
--- what an operation that was asked for t does to a room that holds ts: it holds t too, and c stands for it; or the need exceeds the capacity
-pub record Extended (ws ws′ : List ℕ) (ts : List Tree) (t : Tree) (c : ℕ) : Type 0 where
-  pub room : Room ws′ (t ∷ ts)
-  pub grows : Grows ws ws′
-  pub stands : Stands ws′ c t
-
-abbrev pub After : List ℕ → List ℕ → List Tree → Tree → Made → Type 0
-After ws ws′ ts t (At c) = Extended ws ws′ ts t (c .0)
-After ws ws′ ts t Full = Over (length ws) (t ∷ ts)

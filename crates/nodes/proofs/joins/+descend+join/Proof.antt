@@ -124,7 +124,7 @@ cut : (t : ℕ) (d : AtSplit t)
     → app.Cut (from t d .args .nodes .now) (from t d .args .memo .now) (from t d .args .a .0) (from t d .args .b .0) (d .split .result)
 cut t d =
     let s = from t d .pre .1 in
-    record { able = s .0; a2 = s .2; b2 = s .3; splits = d .split .ensures }
+    record { able = s .0; a2 = s .2; splits = d .split .ensures }
 
 -- ---- the low side
 
