@@ -90,3 +90,9 @@ next-after {m} {from} {r} l x = go (decLt r 64)
     go (no k) =
         let k′ : ¬ (r < 64) = k in
         omega arith
+
+-- the member after v, in a loop over the members: each turn goes up
+pub next-up : (m v r : ℕ) → r ≡ lowest 64 (onward m (v + 1)) → v < 64 → (v < r) × (r ≤ 64)
+next-up m v r e l =
+    let x : Next m (v + 1) r = next-is m (v + 1) r e in
+    (omega (arith, next-after (omega arith) x), x .bounded)

@@ -9,7 +9,7 @@ use Prim.Native.Nat.{ℕ, _+_, _^_, _≤_, _<_}
 use native.Mathlib.Omega.{arith}
 use borrow.Author.Tests.{lt-ltb, le-ltb, le-leb, lt-leb, eq-eqb, ne-eqb}
 use lib.ListN.{length, getD}
-use Rattle.masks.specs.Sets.{bit, pick, put, number, weight}
+use Rattle.masks.specs.Sets.{bit, put, number, weight}
 use Rattle.masks.specs.declared.Mask.{Mask}
 use Rattle.masks.proofs.Weights.{weight-new, weight-most}
 use Rattle.trees.specs.Best.{asLight, held}
@@ -18,22 +18,20 @@ use Rattle.picker.specs.Work.{setOf, Priced, Lacking, LighterPromise}
 use Rattle.picker.specs.declared.best.Best.{Best}
 use Rattle.picker.specs.declared.best.Best.the-variants.{Set, Nothing}
 
--- ---- the test for as light
+-- ---- the test for as light: k and j are the weights
 
-module _ (c : ℕ → ℕ) (n S R : ℕ) where
-  as-light-yes : (weight c n S < weight c n R) ⊎ ((weight c n S ≡ weight c n R) × (S ≤ R)) → asLight c n S R ≡ true
+module _ (c : ℕ → ℕ) (n S R k j : ℕ) (p : k ≡ weight c n S) (q : j ≡ weight c n R) where
+  as-light-yes : (k < j) ⊎ ((k ≡ j) × (S ≤ R)) → asLight c n S R ≡ true
   unfolding asLight
-  as-light-yes (inl l) = rw (lt-ltb (weight c n S) (weight c n R) l)
+  as-light-yes (inl l) = rw (lt-ltb (weight c n S) (weight c n R) (omega arith))
   as-light-yes (inr l) =
-      let e : weight c n S ≡ weight c n R = l .0 in
-      rw (le-ltb (weight c n S) (weight c n R) (omega arith), eq-eqb (weight c n S) (weight c n R) e) (le-leb S R (l .1))
+      rw (le-ltb (weight c n S) (weight c n R) (omega arith), eq-eqb (weight c n S) (weight c n R) (omega arith)) (le-leb S R (l .1))
 
-  as-light-no : (weight c n R < weight c n S) ⊎ ((weight c n S ≡ weight c n R) × (R < S)) → asLight c n S R ≡ false
+  as-light-no : (j < k) ⊎ ((k ≡ j) × (R < S)) → asLight c n S R ≡ false
   unfolding asLight
   as-light-no (inl l) = rw (le-ltb (weight c n S) (weight c n R) (omega arith), ne-eqb (weight c n S) (weight c n R) (omega arith))
   as-light-no (inr l) =
-      let e : weight c n S ≡ weight c n R = l .0 in
-      rw (le-ltb (weight c n S) (weight c n R) (omega arith), eq-eqb (weight c n S) (weight c n R) e) (lt-leb S R (l .1))
+      rw (le-ltb (weight c n S) (weight c n R) (omega arith), eq-eqb (weight c n S) (weight c n R) (omega arith)) (lt-leb S R (l .1))
 
 -- ---- the lighter one
 
@@ -48,22 +46,10 @@ module _ {a b : Best} (k j : ℕ) (S R : Mask) (e : a ≡ Set k S) (f : b ≡ Se
   whichever r h = subst₂ (λ x y. LighterPromise x y r) (sym e) (sym f) h
 
   pub first-one : (k < j) ⊎ ((k ≡ j) × (number S ≤ number R)) → LighterPromise a b (Set k S)
-  first-one d =
-      whichever (Set k S) (λ c n p q. (
-        sym (ap (λ x. pick x (some (number S)) (some (number R)))
-            (as-light-yes c n (number S) (number R)
-            (subst₂ (λ x y. (x < y) ⊎ ((x ≡ y) × (number S ≤ number R))) p q d))),
-        p,
-      ))
+  first-one d = whichever (Set k S) (λ c n p q. (rw (as-light-yes c n (number S) (number R) k j p q d), p))
 
   pub second-one : (j < k) ⊎ ((k ≡ j) × (number R < number S)) → LighterPromise a b (Set j R)
-  second-one d =
-      whichever (Set j R) (λ c n p q. (
-        sym (ap (λ x. pick x (some (number S)) (some (number R)))
-            (as-light-no c n (number S) (number R)
-            (subst₂ (λ x y. (y < x) ⊎ ((x ≡ y) × (number R < number S))) p q d))),
-        q,
-      ))
+  second-one d = whichever (Set j R) (λ c n p q. (rw (as-light-no c n (number S) (number R) k j p q d), q))
 
 -- ---- one flip-flop more
 

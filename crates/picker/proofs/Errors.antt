@@ -1,7 +1,7 @@
 -- Errors that look right: what each of them would pick is not the right set. Where it comes from costs that are not compared or from too few passes, that
 -- the error yields it is computed too. Assumes nothing.
 use mathlib.Core.Path.{_≡_, refl, sym, ap, _∙_}
-use mathlib.Core.Logic.{_⊎_, inl, inr}
+use mathlib.Core.Logic.{_≢_, _⊎_, inl, inr}
 use mathlib.Core.Bool.{Bool}
 use mathlib.Core.List.{List, [], _∷_}
 use mathlib.Core.Option.{Option, none, some}
@@ -45,9 +45,9 @@ module _ (rows costs : List ℕ) (valid : first (checks rows (length costs)) ≡
       best-pick (costOf costs) rows fit (componentsOf (leftRows rows costs))
       (components-found (leftRows rows costs) (reduced-fits (costOf costs) rows fit))
 
-  -- whatever room is lent, and whatever cost and need are told with it
-  pub right-set : (room S cost need : ℕ) → Right rows costs room S cost need → S ≡ setOf rows costs
-  right-set room S cost need r = lightest-unique (r .lightest) set-lightest
+  -- so no other set is right, whatever room is lent, and whatever cost and need are told with it
+  pub other-wrong : (S : ℕ) → S ≢ setOf rows costs → (room cost need : ℕ) → Right rows costs room S cost need → ⊥
+  other-wrong S k room cost need r = k (lightest-unique (r .lightest) set-lightest)
 
 -- no set, where there is a loop
 pub empty-wrong : (rows costs : List ℕ) (room cost need : ℕ) → Loop (edge rows) every → Right rows costs room 0 cost need → ⊥
@@ -77,7 +77,7 @@ no-comparing =
     record {
       yields = refl;
       cost = refl;
-      wrong = λ room cost need r. let e : _≡_ {A = ℕ} 2 9 = right-set blockA costsA refl room 2 cost need r in omega arith;
+      wrong = other-wrong blockA costsA refl 2 (λ (e : _≡_ {A = ℕ} 2 9). omega arith);
     }
 
 -- ---- too few passes
@@ -108,7 +108,7 @@ one-pass =
       one = refl;
       cost = refl;
       two = refl;
-      wrong = λ room cost need r. let e : _≡_ {A = ℕ} 10 9 = right-set blockA costsA refl room 10 cost need r in omega arith;
+      wrong = other-wrong blockA costsA refl 10 (λ (e : _≡_ {A = ℕ} 10 9). omega arith);
     }
 
 -- ---- a pass count in four bits
@@ -158,5 +158,5 @@ costs-only =
     record {
       meets = set-lightest pair (5 ∷ 4 ∷ []) refl .meets;
       even = refl;
-      wrong = λ room cost need r. let e : _≡_ {A = ℕ} 2 1 = right-set pair (5 ∷ 5 ∷ []) refl room 2 cost need r in omega arith;
+      wrong = other-wrong pair (5 ∷ 5 ∷ []) refl 2 (λ (e : _≡_ {A = ℕ} 2 1). omega arith);
     }

@@ -3,7 +3,7 @@ use Prim.Native.Nat.{_-_}
 use native.Mathlib.Omega.{arith}
 use borrow.Author.Needs.{needs}
 use Rattle.masks.specs.Sets.{number}
-use Rattle.masks.proofs.Nexts.{next-is, next-after}
+use Rattle.masks.proofs.Nexts.{next-up}
 use Rattle.picker.proofs.Summing.{Summing, summing-none, summing-more, summing-all, summing-small}
 use Rattle.picker.proofs.cost_of.Statement.{statement}
 use Rattle.picker.proofs.cost_of.Tie as tie
@@ -46,7 +46,7 @@ next-member-requires-2 : tie.Need-next-member-requires-2 Inv-loop μ-loop
 next-member-requires-2 c κs = search needs
 
 loop-less : tie.Need-loop-less Inv-loop μ-loop
-loop-less c = omega (arith, next-after (omega arith) (next-is _ _ _ (c .next-member2 .ensures)), next-is _ _ _ (c .next-member2 .ensures) .bounded)
+loop-less c = omega (arith, next-up _ _ _ (c .next-member2 .ensures) (omega arith))
 
 loop-again : tie.Need-loop-again Inv-loop μ-loop
 loop-again c =

@@ -1,11 +1,11 @@
 -- `any_of` meets its contract. The loop's invariant: the OR over the members passed was made. Assumes nothing.
 use mathlib.Core.Path.{_≡_, refl, _∙_}
-use Prim.Native.Nat.{_-_}
+use Prim.Native.Nat.{_-_, _<_}
 use native.Mathlib.Omega.{arith}
 use borrow.Author.Needs.{needs}
 use lib.ListN.{length}
 use Rattle.masks.specs.Sets.{number}
-use Rattle.masks.proofs.Nexts.{next-is, next-after}
+use Rattle.masks.proofs.Nexts.{next-up}
 use Rattle.cycles.proofs.Sums.{Summing, sum-none, sum-joinable, sum-step, sum-full, sum-done}
 use Rattle.cycles.proofs.making.any_of.Statement.{statement}
 use Rattle.cycles.proofs.making.any_of.Tie as tie
@@ -29,7 +29,8 @@ node-at-requires c κs = omega (arith, c .before .before .before .before .before
 
 or-requires : tie.Need-or-requires Inv-loop μ-loop
 or-requires c κs =
-    sum-joinable _ _ _ _ _ _ _ _ (c .before .before .before .loop-test .taken) (c .node-at .ensures) (c .before .before .before .before .loop .inv .2) _ (c .before .before .before .before .before .before .before .before .before .pre)
+    let h = c .before .before .before .before in
+    sum-joinable _ _ _ _ _ _ _ _ (c .before .before .before .loop-test .taken) (c .node-at .ensures) (h .loop .inv .2) _ (h .before .before .before .before .before .pre)
 
 enum-known-made : tie.Need-enum-known-made Inv-loop μ-loop
 enum-known-made c = search needs
@@ -43,9 +44,21 @@ same-length c = search needs
 same-length-2 : tie.Need-same-length-2 Inv-loop μ-loop
 same-length-2 c = search needs
 
+-- ---- after an OR
+
+abbrev Turn : Type 0
+Turn = tie.After-or Inv-loop μ-loop
+
+abbrev head : Turn → tie.At-loop Inv-loop μ-loop
+head t = t .before .before .before .before .before
+
+more : (t : Turn) → head t .loop .u < 64
+more t = t .before .before .before .before .loop-test .taken
+
 returns : tie.Need-returns Inv-loop μ-loop
 returns c =
-    sum-full _ _ _ _ _ _ _ _ (c .before .before .before .before .before .before .before .before .before .before .loop-test .taken) (c .before .before .before .before .before .before .before .node-at .ensures) (c .before .before .before .before .before .before .before .before .before .before .before .loop .inv .2) _ _ _ (c .before .before .before .before .before .before .or .ensures) (c .enum-told .given .1)
+    let t = c .before .before .before .before .before .before in
+    sum-full _ _ _ _ _ _ _ _ (more t) (t .before .node-at .ensures) (head t .loop .inv .2) _ _ _ (t .or .ensures) (c .enum-told .given .1)
 
 add-next-member : tie.Need-add-next-member Inv-loop μ-loop
 add-next-member c = search needs
@@ -54,15 +67,17 @@ next-member-requires-2 : tie.Need-next-member-requires-2 Inv-loop μ-loop
 next-member-requires-2 c κs = search needs
 
 loop-less : tie.Need-loop-less Inv-loop μ-loop
-loop-less c =
-    omega (arith, next-after (omega arith) (next-is _ _ _ (c .next-member2 .ensures)), next-is _ _ _ (c .next-member2 .ensures) .bounded)
+loop-less c = omega (arith, next-up _ _ _ (c .next-member2 .ensures) (omega arith))
 
 loop-again : tie.Need-loop-again Inv-loop μ-loop
-loop-again c = (
-  c .before .before .before .before .before .before .before .before .or .kept .0 ∙ c .before .before .before .before .before .before .before .before .before .before .before .before .before .loop .inv .0,
-  c .before .before .before .before .before .before .before .before .or .kept .1 .0 ∙ c .before .before .before .before .before .before .before .before .before .before .before .before .before .loop .inv .1,
-  sum-step _ _ _ _ _ _ _ _ (c .before .before .before .before .before .before .before .before .before .before .before .before .loop-test .taken) (c .before .before .before .before .before .before .before .before .before .node-at .ensures) (c .before .before .before .before .before .before .before .before .before .before .before .before .before .loop .inv .2) _ _ _ _ _ (c .before .before .before .before .before .before .before .before .or .ensures) (c .before .before .made .given .1) (c .next-member2 .ensures),
-)
+loop-again c =
+    let t = c .before .before .before .before .before .before .before .before in
+    let l = head t .loop .inv in (
+      t .or .kept .0 ∙ l .0,
+      t .or .kept .1 .0 ∙ l .1,
+      sum-step _ _ _ _ _ _ _ _ (more t) (t .before .node-at .ensures) (l .2) _ _ _ _ _ (t .or .ensures) (c .before .before .made .given .1)
+          (c .next-member2 .ensures),
+    )
 
 same-length-3 : tie.Need-same-length-3 Inv-loop μ-loop
 same-length-3 c = search needs

@@ -1,10 +1,10 @@
 -- `make_variables` meets its contract. The loop's invariant: the variables of the members passed are made. Assumes nothing.
 use mathlib.Core.Path.{sym, _∙_}
-use Prim.Native.Nat.{_-_}
+use Prim.Native.Nat.{_-_, _<_}
 use native.Mathlib.Omega.{arith}
 use borrow.Author.Needs.{needs}
 use Rattle.masks.specs.Sets.{number}
-use Rattle.masks.proofs.Nexts.{next-is, next-after}
+use Rattle.masks.proofs.Nexts.{next-up}
 use Rattle.cycles.proofs.Settles.{Varying, vary-none, vary-step, vary-full, vary-done}
 use Rattle.cycles.proofs.making.make_variables.Statement.{statement}
 use Rattle.cycles.proofs.making.make_variables.Tie as tie
@@ -30,21 +30,36 @@ enum-known-made c = search needs
 enum-told : tie.Need-enum-told Inv-loop μ-loop
 enum-told c = search needs
 
+-- ---- after a variable
+
+abbrev Turn : Type 0
+Turn = tie.After-variable Inv-loop μ-loop
+
+abbrev head : Turn → tie.At-loop Inv-loop μ-loop
+head t = t .before .before .before
+
+more : (t : Turn) → head t .loop .v < 64
+more t = t .before .before .loop-test .taken
+
 same-length : tie.Need-same-length Inv-loop μ-loop
 same-length c =
-    c .before .before .before .before .variable .kept .0 ∙ c .before .before .before .before .before .before .before .loop .inv .added .grows .size
+    let t = c .before .before .before .before in
+    t .variable .kept .0 ∙ head t .loop .inv .added .grows .size
 
 same-length-2 : tie.Need-same-length-2 Inv-loop μ-loop
 same-length-2 c =
-    c .before .before .before .before .before .before .before .loop .inv .long ∙ sym (c .before .before .before .before .before .before .before .before .before .before .before .pre .2)
+    let h = head (c .before .before .before .before) in
+    h .loop .inv .long ∙ sym (h .before .before .before .before .pre .2)
 
 returns : tie.Need-returns Inv-loop μ-loop
 returns c =
-    vary-full _ _ _ _ _ (c .before .before .before .before .before .before .loop-test .taken) (c .before .before .before .before .before .before .before .loop .inv) _ _ (c .before .before .before .before .variable .ensures) (c .enum-told .given .1)
+    let t = c .before .before .before .before in
+    vary-full _ _ _ _ _ (more t) (head t .loop .inv) _ _ (t .variable .ensures) (c .enum-told .given .1)
 
 set-node-requires : tie.Need-set-node-requires Inv-loop μ-loop
 set-node-requires c κs =
-    omega (arith, c .before .before .before .before .before .before .before .before .before .loop .inv .long, c .before .before .before .before .before .before .before .before .loop-test .taken)
+    let t = c .before .before .before .before .before .before in
+    omega (arith, head t .loop .inv .long, more t)
 
 add-next-member : tie.Need-add-next-member Inv-loop μ-loop
 add-next-member c = search needs
@@ -53,12 +68,13 @@ next-member-requires-2 : tie.Need-next-member-requires-2 Inv-loop μ-loop
 next-member-requires-2 c κs = search needs
 
 loop-less : tie.Need-loop-less Inv-loop μ-loop
-loop-less c =
-    omega (arith, next-after (omega arith) (next-is _ _ _ (c .next-member2 .ensures)), next-is _ _ _ (c .next-member2 .ensures) .bounded)
+loop-less c = omega (arith, next-up _ _ _ (c .next-member2 .ensures) (omega arith))
 
 loop-again : tie.Need-loop-again Inv-loop μ-loop
 loop-again c =
-    vary-step _ _ _ _ _ (c .before .before .before .before .before .before .before .before .before .before .before .before .loop-test .taken) (c .before .before .before .before .before .before .before .before .before .before .before .before .before .loop .inv) _ _ (c .before .before .before .before .before .before .before .before .before .before .variable .ensures) _ _ _ (c .before .before .before .before .before .before .made .given .1) (c .before .before .before .set-node .ensures) (c .next-member2 .ensures)
+    let t = c .before .before .before .before .before .before .before .before .before .before in
+    vary-step _ _ _ _ _ (more t) (head t .loop .inv) _ _ (t .variable .ensures) _ _ _ (c .before .before .before .before .before .before .made .given .1) (c .before .before .before .set-node .ensures)
+    (c .next-member2 .ensures)
 
 same-length-3 : tie.Need-same-length-3 Inv-loop μ-loop
 same-length-3 c = c .before .loop .inv .added .grows .size

@@ -6,7 +6,7 @@ use Prim.Native.Nat.{_-_}
 use native.Mathlib.Omega.{arith}
 use borrow.Author.Needs.{needs}
 use Rattle.masks.specs.Sets.{number}
-use Rattle.masks.proofs.Nexts.{next-is, next-after}
+use Rattle.masks.proofs.Nexts.{next-up}
 use Rattle.cycles.proofs.Settles.{Taking, take-none, take-step, take-done}
 use Rattle.cycles.proofs.making.settle.Statement.{statement}
 use Rattle.cycles.proofs.making.settle.Tie as tie
@@ -31,7 +31,8 @@ node-at-requires-2 c κs = omega (arith, c .before .before .before .before .befo
 
 set-node-requires : tie.Need-set-node-requires Inv-loop μ-loop
 set-node-requires c κs =
-    omega (arith, c .before .before .before .before .before .before .before .before .before .before .before .before .pre, c .before .before .before .before .before .before .before .before .loop .inv .long)
+    let h = c .before .before .before .before .before .before .before .before in
+    omega (arith, h .before .before .before .before .pre, h .loop .inv .long)
 
 add-next-member : tie.Need-add-next-member Inv-loop μ-loop
 add-next-member c = search needs
@@ -40,13 +41,15 @@ next-member-requires-2 : tie.Need-next-member-requires-2 Inv-loop μ-loop
 next-member-requires-2 c κs = search needs
 
 loop-less : tie.Need-loop-less Inv-loop μ-loop
-loop-less c =
-    omega (arith, next-after (omega arith) (next-is _ _ _ (c .next-member2 .ensures)), next-is _ _ _ (c .next-member2 .ensures) .bounded)
+loop-less c = omega (arith, next-up _ _ _ (c .next-member2 .ensures) (omega arith))
 
 loop-again : tie.Need-loop-again Inv-loop μ-loop
 loop-again c =
-    take-step _ _ _ _ _ _ _ _ _ _ _ (c .before .before .before .before .before .before .before .before .before .before .before .loop-test .taken) (c .before .before .before .before .before .before .before .before .before .before .node-at .ensures) (c .before .before .before .before .before .before .before .before .node-at2 .ensures) (c .before .before .before .set-node .ensures) (c .next-member2 .ensures)
-    (⊎-elim (λ w e. absurd (false≢true (sym (w .1) ∙ e))) (λ w e. (sym (w .1) ∙ e, w .0 .left)) (c .before .before .before .before .before .if1 .came)) (c .before .before .before .before .before .before .before .before .before .before .before .before .loop .inv)
+    let n = c .before .before .before .before .before .before .before .before in
+    let h = n .before .before .before .before in
+    take-step _ _ _ _ _ _ _ _ _ _ _ (n .before .before .before .loop-test .taken) (n .before .before .node-at .ensures) (n .node-at2 .ensures)
+    (c .before .before .before .set-node .ensures) (c .next-member2 .ensures)
+    (⊎-elim (λ w e. absurd (false≢true (sym (w .1) ∙ e))) (λ w e. (sym (w .1) ∙ e, w .0 .left)) (c .before .before .before .before .before .if1 .came)) (h .loop .inv)
 
 same-length : tie.Need-same-length Inv-loop μ-loop
 same-length c = c .before .loop .inv .long ∙ sym (c .before .before .before .before .before .pre .0)

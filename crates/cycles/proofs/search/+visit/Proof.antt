@@ -10,7 +10,7 @@ use lib.ListN.{length}
 use borrow.Fn.Kinds.{In}
 use borrow.Fn.PlainCycle.{Measures, is, falls, and}
 use Rattle.masks.specs.Sets.{number}
-use Rattle.masks.proofs.Nexts.{next-is, next-after}
+use Rattle.masks.proofs.Nexts.{next-up}
 use Rattle.cycles.specs.Work.{size, Marked, VisitDone}
 use Rattle.cycles.proofs.Visiting.{Looking, look-first, turn-mark, turn-over, turn-visit}
 use Rattle.cycles.proofs.Visiting.{may-inner, may-small, going-falls, begun-held, target-may, end-room, visit-done}
@@ -102,9 +102,7 @@ visit-next-member-requires-2 : (t : ℕ) → visit-lts.Need-next-member-requires
 visit-next-member-requires-2 t c κs = search needs
 
 visit-loop-less : (t : ℕ) → visit-lts.Need-loop-less (callees t) (visit-at t) visit.Post visit-Inv-loop visit-μ-loop
-visit-loop-less t c =
-    let x = next-is _ _ _ (c .next-member2 .ensures) in
-    omega (arith, next-after (omega arith) x, x .bounded)
+visit-loop-less t c = omega (arith, next-up _ _ _ (c .next-member2 .ensures) (omega arith))
 
 visit-loop-again : (t : ℕ) → visit-lts.Need-loop-again (callees t) (visit-at t) visit.Post visit-Inv-loop visit-μ-loop
 visit-loop-again t c =

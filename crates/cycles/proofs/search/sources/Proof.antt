@@ -4,7 +4,7 @@ use Prim.Native.Nat.{_-_}
 use native.Mathlib.Omega.{arith}
 use borrow.Author.Needs.{needs}
 use Rattle.masks.specs.Sets.{number}
-use Rattle.masks.proofs.Nexts.{next-is, next-after}
+use Rattle.masks.proofs.Nexts.{next-up}
 use Rattle.cycles.proofs.Incoming.{Setting, set-first, set-more, set-all}
 use Rattle.cycles.proofs.search.sources.Statement.{statement}
 use Rattle.cycles.proofs.search.sources.Tie as tie
@@ -42,9 +42,7 @@ next-member-requires-2 : tie.Need-next-member-requires-2 Inv-loop μ-loop
 next-member-requires-2 c κs = search needs
 
 loop-less : tie.Need-loop-less Inv-loop μ-loop
-loop-less c =
-    let x = next-is _ _ _ (c .next-member2 .ensures) in
-    omega (arith, next-after (omega arith) x, x .bounded)
+loop-less c = omega (arith, next-up _ _ _ (c .next-member2 .ensures) (omega arith))
 
 loop-again : tie.Need-loop-again Inv-loop μ-loop
 loop-again c =

@@ -5,7 +5,7 @@ use Prim.Native.Nat.{_-_}
 use native.Mathlib.Omega.{arith}
 use borrow.Author.Needs.{needs}
 use Rattle.masks.specs.Sets.{number}
-use Rattle.masks.proofs.Nexts.{next-is, next-after}
+use Rattle.masks.proofs.Nexts.{next-up}
 use Rattle.graphs.proofs.Gathering.{Gathering, gather-none, gather-yes, gather-no, gather-all}
 use Rattle.graphs.proofs.component.holders.Statement.{statement}
 use Rattle.graphs.proofs.component.holders.Tie as tie
@@ -41,7 +41,7 @@ next-member-requires-2 : tie.Need-next-member-requires-2 Inv-loop μ-loop
 next-member-requires-2 c κs = search needs
 
 loop-less : tie.Need-loop-less Inv-loop μ-loop
-loop-less c = omega (arith, next-after (omega arith) (next-is _ _ _ (c .next-member2 .ensures)), next-is _ _ _ (c .next-member2 .ensures) .bounded)
+loop-less c = omega (arith, next-up _ _ _ (c .next-member2 .ensures) (omega arith))
 
 loop-again : tie.Need-loop-again Inv-loop μ-loop
 loop-again c =
