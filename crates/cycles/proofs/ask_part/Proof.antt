@@ -20,28 +20,41 @@ same-length c = search needs
 same-length-2 : tie.Need-same-length-2
 same-length-2 c = search needs
 
+abbrev start : tie.After-build-component → tie.Start
+start q = q .before .before .before .before .before .before
+
 returns : tie.Need-returns
 returns c =
-    let b = c .before .before .before .before .before .before .build-component in
-    part-full _ _ 0 (c .before .before .before .before .before .before .before .before .before .before .before .before .args .nodes .now) (b .last .1 .1 .0) (b .kept .1 .1 .0) (b .result) (b .ensures) (c .enum-told .given .1)
+    let q = c .before .before .before .before .before .before in
+    let b = q .build-component in
+    part-full _ _ 0 (start q .args .nodes .now) (b .last .1 .1 .0) (b .kept .1 .1 .0) (b .result) (b .ensures) (c .enum-told .given .1)
+
+-- ---- it fits
+
+-- where it was built
+abbrev built : tie.After-known-told → tie.After-build-component
+built k = k .before .before .before .before .before .before .before
 
 slice-reshare-prefix-room : tie.Need-slice-reshare-prefix-room
 slice-reshare-prefix-room c =
-    let b = c .before .before .before .before .before .before .before .build-component in
+    let b = built c .build-component in
     part-built _ _ _ (b .last .1 .1 .0) (b .result) (b .ensures) _ _ (c .before .built .given .1) .0
 
 slice-aggregate-room : tie.Need-slice-aggregate-room
 slice-aggregate-room c =
-    let b = c .before .before .before .before .before .before .before .before .build-component in
-    part-words _ _ _ (b .last .1 .1 .0) (b .result) (b .ensures) _ _ (c .before .before .built .given .1)
+    let k = c .before in
+    let b = built k .build-component in
+    part-words _ _ _ (b .last .1 .1 .0) (b .result) (b .ensures) _ _ (k .before .built .given .1)
 
 used-requires : tie.Need-used-requires
 used-requires c κs = search needs
 
 value-requires : tie.Need-value-requires
 value-requires c κs =
-    let b = c .before .before .before .before .before .before .before .before .before .build-component in
-    part-valued _ _ 0 (c .before .before .before .before .before .before .before .before .before .before .before .before .before .before .before .args .nodes .now) (b .last .1 .1 .0) (b .kept .1 .1 .0) (b .result) (b .ensures) _ _ (c .before .before .before .built .given .1)
+    let k = c .before .before in
+    let q = built k in
+    let b = q .build-component in
+    part-valued _ _ 0 (start q .args .nodes .now) (b .last .1 .1 .0) (b .kept .1 .1 .0) (b .result) (b .ensures) _ _ (k .before .built .given .1)
 
 same-length-3 : tie.Need-same-length-3
 same-length-3 c = search needs
@@ -51,8 +64,11 @@ same-length-4 c = search needs
 
 returns-2 : tie.Need-returns-2
 returns-2 c =
-    let b = c .before .before .before .before .before .before .before .before .before .before .build-component in
-    part-done _ _ _ (c .before .before .before .before .before .before .before .before .before .before .before .before .before .before .before .before .args .nodes .now) (b .last .1 .1 .0) (b .kept .1 .1 .0) (b .result) (b .ensures) _ _ (c .before .before .before .before .built .given .1) _ _ (c .before .used .ensures) (c .value .ensures)
+    let k = c .before .before .before in
+    let q = built k in
+    let b = q .build-component in
+    part-done _ _ _ (start q .args .nodes .now) (b .last .1 .1 .0) (b .kept .1 .1 .0) (b .result) (b .ensures) _ _ (k .before .built .given .1) _ _
+    (c .before .used .ensures) (c .value .ensures)
 
 pub ask-part-spec : {M : Type 1} → statement M
 ask-part-spec =

@@ -24,7 +24,9 @@ returns c = product-full _ _ _ _ _ _ _ (c .before .before .before .before .befor
 
 and-requires : tie.Need-and-requires
 and-requires c κs =
-    product-joinable _ _ _ _ _ _ _ (c .before .before .before .before .before .before .before .before .before .any-of .ensures) _ (c .before .before .before .made .given .1) _ (c .before .before .before .before .before .before .before .before .before .before .before .before .before .before .before .pre .0) (c .before .before .before .before .before .before .before .before .before .before .before .before .before .before .before .pre .1)
+    let a = c .before .before .before .before .before .before .before .before .before in
+    let p = a .before .before .before .before .before .before .pre in
+    product-joinable _ _ _ _ _ _ _ (a .any-of .ensures) _ (c .before .before .before .made .given .1) _ (p .0) (p .1)
 
 same-length-3 : tie.Need-same-length-3
 same-length-3 c = search needs
@@ -34,7 +36,8 @@ same-length-4 c = search needs
 
 returns-2 : tie.Need-returns-2
 returns-2 c =
-    product-done _ _ _ _ _ _ _ (c .before .before .before .before .before .before .before .before .before .before .before .before .before .before .any-of .ensures) _ (c .before .before .before .before .before .before .before .before .made .given .1) _ _ _ (c .before .before .before .before .and .ensures)
+    let m = c .before .before .before .before .before .before .before .before in
+    product-done _ _ _ _ _ _ _ (m .before .before .before .before .before .before .any-of .ensures) _ (m .made .given .1) _ _ _ (c .before .before .before .before .and .ensures)
 
 pub product-spec : {M : Type 1} → statement M
 product-spec =

@@ -24,28 +24,40 @@ same-length c = search needs
 same-length-2 : tie.Need-same-length-2
 same-length-2 c = search needs
 
+abbrev start : tie.After-build-component → tie.Start
+start q = q .before .before .before .before .before .before .before
+
 returns : tie.Need-returns
 returns c =
-    let start = c .before .before .before .before .before .before .before .before .before .before .before .before .before .before in
-    let b = c .before .before .before .before .before .before .before .build-component in
-    part-too-large (start .pre .0) (start .pre .1) (b .last .1 .1 .0) (b .kept .1 .1 .0) (b .ensures) _ (c .before .enum-told .given .1) (c .next-member .ensures)
+    let q = c .before .before .before .before .before .before .before in
+    let b = q .build-component in
+    part-too-large (start q .pre .0) (start q .pre .1) (b .last .1 .1 .0) (b .kept .1 .1 .0) (b .ensures) _ (c .before .enum-told .given .1)
+    (c .next-member .ensures)
+
+-- ---- it fits
+
+-- where it was built
+abbrev built : tie.After-known-told → tie.After-build-component
+built k = k .before .before .before .before .before .before .before
 
 slice-reshare-prefix-room : tie.Need-slice-reshare-prefix-room
 slice-reshare-prefix-room c =
-    let b = c .before .before .before .before .before .before .before .build-component in
+    let b = built c .build-component in
     part-built _ _ _ (b .last .1 .1 .0) (b .result) (b .ensures) _ _ (c .before .built .given .1) .0
 
 slice-aggregate-room : tie.Need-slice-aggregate-room
 slice-aggregate-room c =
-    let b = c .before .before .before .before .before .before .before .before .build-component in
-    part-words _ _ _ (b .last .1 .1 .0) (b .result) (b .ensures) _ _ (c .before .before .built .given .1)
+    let k = c .before in
+    let b = built k .build-component in
+    part-words _ _ _ (b .last .1 .1 .0) (b .result) (b .ensures) _ _ (k .before .built .given .1)
 
 lightest-requires : tie.Need-lightest-requires
 lightest-requires c κs =
-    let start = c .before .before .before .before .before .before .before .before .before .before .before .before .before .before .before .before in
-    let b = c .before .before .before .before .before .before .before .before .before .build-component in (
-      standing (start .pre .0) (start .pre .1) (b .last .1 .1 .0) (b .kept .1 .1 .0) (b .ensures) _ _ (c .before .before .before .built .given .1),
-      omega (arith, start .pre .0 .pairs, b .kept .1 .1 .1 .0),
+    let k = c .before .before in
+    let q = built k in
+    let b = q .build-component in (
+      standing (start q .pre .0) (start q .pre .1) (b .last .1 .1 .0) (b .kept .1 .1 .0) (b .ensures) _ _ (k .before .built .given .1),
+      omega (arith, start q .pre .0 .pairs, b .kept .1 .1 .1 .0),
     )
 
 used-requires : tie.Need-used-requires
@@ -59,9 +71,10 @@ same-length-4 c = search needs
 
 returns-2 : tie.Need-returns-2
 returns-2 c =
-    let start = c .before .before .before .before .before .before .before .before .before .before .before .before .before .before .before .before .before .before .before .before in
-    let b = c .before .before .before .before .before .before .before .before .before .before .before .before .before .build-component in
-    part-right (start .pre .0) (start .pre .1) (b .last .1 .1 .0) (b .kept .1 .1 .0) (b .ensures) _ _ (c .before .before .before .before .before .before .before .built .given .1) _ _
+    let k = c .before .before .before .before .before .before in
+    let q = built k in
+    let b = q .build-component in
+    part-right (start q .pre .0) (start q .pre .1) (b .last .1 .1 .0) (b .kept .1 .1 .0) (b .ensures) _ _ (k .before .built .given .1) _ _
     (c .before .before .before .lightest .ensures) (c .used .ensures)
 
 pub component-set-spec : {M : Type 1} → statement M
