@@ -111,8 +111,9 @@ returns-3 c =
     let a = start t .args in
     let h = t .before .before .check in
     ask-answered (a .rows .now) (a .kept) (a .nodes .now) (a .memo .now) (h .result) (h .ensures) (t .enum-told .given .1)
-    (wide m ∙ k .before .before .if1 .left) _ (m .before .before .before .of .ensures) (r .result) _ (r .last .1 .1 .0) _ (r .last .1 .1 .1 .0) _ (k .capacity .ensures)
-    (r .kept .1 .1 .0) (r .ensures) (r .kept .1 .1 .1 .0) (c .before .before .before .before .before .before .empty .ensures) (c .before .before .clear .ensures)
+    (wide m ∙ k .before .before .if1 .left) _ (m .before .before .before .of .ensures) (r .result) _ (r .last .1 .1 .0) _ (r .last .1 .1 .1 .0) _
+    (k .capacity .ensures) (r .kept .1 .1 .0) (r .ensures) (r .kept .1 .1 .1 .0) (c .before .before .before .before .before .before .empty .ensures)
+    (c .before .before .clear .ensures)
 
 pub ask-spec : {M : Type 1} → statement M
 ask-spec =

@@ -15,7 +15,8 @@ use Rattle.cycles.proofs.ask_block.Statement.{statement}
 use Rattle.cycles.proofs.ask_block.Tie as tie
 
 abbrev Inv-loop : tie.InvT-loop
-Inv-loop rows kept nodes₀ memo₀ n reached yes₀ need₀ v₀ nodes memo yes' need v = (length nodes ≡ length nodes₀) × (length memo ≡ length memo₀) × Asking rows (number kept) (length nodes₀) v need yes'
+Inv-loop rows kept nodes₀ memo₀ n reached yes₀ need₀ v₀ nodes memo yes' need v =
+    (length nodes ≡ length nodes₀) × (length memo ≡ length memo₀) × Asking rows (number kept) (length nodes₀) v need yes'
 
 abbrev μ-loop : tie.MeasureT-loop
 μ-loop rows kept nodes₀ memo₀ n reached yes₀ need₀ v₀ nodes memo yes' need v = length rows - v
@@ -32,7 +33,9 @@ loop-holds c =
     (refl, refl, ask-first _ _ _ (r .before .before .before .before .pre .0) _ (c .next-component .ensures _ (r .reach-rows .ensures .1)))
 
 component-around-requires : tie.Need-component-around-requires Inv-loop μ-loop
-component-around-requires c κs = omega (arith, c .before .loop-test .taken, c .before .before .before .before .before .before .before .before .before .pre .0 .few)
+component-around-requires c κs =
+    let l = c .before in
+    omega (arith, l .loop-test .taken, l .before .before .before .before .before .before .before .before .pre .0 .few)
 
 -- ---- in a turn
 

@@ -28,13 +28,16 @@ slice-relend-prefix-pick-memo : tie.Need-slice-relend-prefix-pick-memo
 slice-relend-prefix-pick-memo c = omega (arith, c .capacity .ensures)
 
 slice-aggregate-pick-memo : tie.Need-slice-aggregate-pick-memo
-slice-aggregate-pick-memo c = front-length (c .before .before .before .before .before .before .before .before .before .before .args .nodes .now) _ (c .before .capacity .ensures)
+slice-aggregate-pick-memo c =
+    let k = c .before in
+    front-length (k .before .before .before .before .before .before .before .before .before .args .nodes .now) _ (k .capacity .ensures)
 
 pick-memo-requires : tie.Need-pick-memo-requires
 pick-memo-requires c κs =
     let s = c .before .before .before .before .before .before .before .before .before .before .before in
+    let told = c .before .before .before .before in
     let n = c .before .before .capacity .ensures in (
-      passes (s .args .rows .now) (s .args .costs .now) (c .before .before .before .before .before .before .check .ensures) (c .before .before .before .before .enum-told .given .1),
+      passes (s .args .rows .now) (s .args .costs .now) (told .before .before .check .ensures) (told .enum-told .given .1),
       omega (arith, front-length (s .args .nodes .now) _ n, n),
     )
 

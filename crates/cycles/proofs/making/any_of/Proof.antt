@@ -11,7 +11,8 @@ use Rattle.cycles.proofs.making.any_of.Statement.{statement}
 use Rattle.cycles.proofs.making.any_of.Tie as tie
 
 abbrev Inv-loop : tie.InvT-loop
-Inv-loop nodes₀ memo₀ set table all₀ u₀ nodes memo all u = (length nodes ≡ length nodes₀) × (length memo ≡ length memo₀) × Summing nodes₀ table (number set) nodes memo u (all .0)
+Inv-loop nodes₀ memo₀ set table all₀ u₀ nodes memo all u =
+    (length nodes ≡ length nodes₀) × (length memo ≡ length memo₀) × Summing nodes₀ table (number set) nodes memo u (all .0)
 
 abbrev μ-loop : tie.MeasureT-loop
 μ-loop nodes₀ memo₀ set table all₀ u₀ nodes memo all u = 64 - u
@@ -29,8 +30,9 @@ node-at-requires c κs = omega (arith, c .before .before .before .before .before
 
 or-requires : tie.Need-or-requires Inv-loop μ-loop
 or-requires c κs =
-    let h = c .before .before .before .before in
-    sum-joinable _ _ _ _ _ _ _ _ (c .before .before .before .loop-test .taken) (c .node-at .ensures) (h .loop .inv .2) _ (h .before .before .before .before .before .pre)
+    let l = c .before .before .before in
+    let h = l .before in
+    sum-joinable _ _ _ _ _ _ _ _ (l .loop-test .taken) (c .node-at .ensures) (h .loop .inv .2) _ (h .before .before .before .before .before .pre)
 
 enum-known-made : tie.Need-enum-known-made Inv-loop μ-loop
 enum-known-made c = search needs

@@ -59,7 +59,8 @@ returns-2 : tie.Need-returns-2
 returns-2 c =
     let start = c .before .before .before .before .before .before .before .before .before .before .before .before .before .before .before in
     let first = c .before .before .before .before .before .before .build-in2 in
-    built-part _ _ _ (start .args .nodes .now) (c .before .before .before .before .before .before .before .before .before .before .before .first-words .result) (first .last .1 .1 .0) (first .result) _ _ (c .enum-told2 .given .1) (first .ensures)
+    built-part _ _ _ (start .args .nodes .now) (c .before .before .before .before .before .before .before .before .before .before .before .first-words .result)
+    (first .last .1 .1 .0) (first .result) _ _ (c .enum-told2 .given .1) (first .ensures)
 
 build-in-requires-3 : tie.Need-build-in-requires-3
 build-in-requires-3 c κs = search needs

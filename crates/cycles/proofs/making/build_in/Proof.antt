@@ -29,7 +29,9 @@ same-length-2 : tie.Need-same-length-2
 same-length-2 c = search needs
 
 returns : tie.Need-returns
-returns c = built-whole _ _ _ _ (c .before .before .before .before .before .before .before .build .result) (c .before .before .before .before .before .before .before .build .ensures) _ (c .before .function .given .1)
+returns c =
+    let b = c .before .before .before .before .before .before .before .build in
+    built-whole _ _ _ _ (b .result) (b .ensures) _ (c .before .function .given .1)
 
 same-length-3 : tie.Need-same-length-3
 same-length-3 c = search needs
@@ -38,7 +40,9 @@ same-length-4 : tie.Need-same-length-4
 same-length-4 c = search needs
 
 returns-2 : tie.Need-returns-2
-returns-2 c = built-none _ _ _ _ (c .before .before .before .before .before .before .build .result) (c .before .before .before .before .before .before .build .ensures) (c .enum-told .given .1)
+returns-2 c =
+    let b = c .before .before .before .before .before .before .build in
+    built-none _ _ _ _ (b .result) (b .ensures) (c .enum-told .given .1)
 
 pub build-in-spec : {M : Type 1} → statement M
 build-in-spec =

@@ -72,8 +72,9 @@ loop-less c = omega (arith, next-up _ _ _ (c .next-member2 .ensures) (omega arit
 
 loop-again : tie.Need-loop-again Inv-loop μ-loop
 loop-again c =
-    let t = c .before .before .before .before .before .before .before .before .before .before in
-    vary-step _ _ _ _ _ (more t) (head t .loop .inv) _ _ (t .variable .ensures) _ _ _ (c .before .before .before .before .before .before .made .given .1) (c .before .before .before .set-node .ensures)
+    let k = c .before .before .before .before .before .before in
+    let t = k .before .before .before .before in
+    vary-step _ _ _ _ _ (more t) (head t .loop .inv) _ _ (t .variable .ensures) _ _ _ (k .made .given .1) (c .before .before .before .set-node .ensures)
     (c .next-member2 .ensures)
 
 same-length-3 : tie.Need-same-length-3 Inv-loop μ-loop

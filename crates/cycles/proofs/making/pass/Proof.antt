@@ -19,7 +19,8 @@ abbrev μ-loop : tie.MeasureT-loop
 μ-loop nodes₀ memo₀ order sources variables table₀ next₀ flops i₀ nodes memo table next i = i
 
 loop-holds : tie.Need-loop-holds Inv-loop μ-loop
-loop-holds c = (omega arith, refl, refl, refl, c .before .before .before .before .before .before .before .pre .1, λ rows C j r. pass-none rows C j _ _ _ _ _ _ r _)
+loop-holds c =
+    (omega arith, refl, refl, refl, c .before .before .before .before .before .before .before .pre .1, λ rows C j r. pass-none rows C j _ _ _ _ _ _ r _)
 
 sub-i : tie.Need-sub-i Inv-loop μ-loop
 sub-i c = search needs

@@ -37,7 +37,8 @@ same-length-4 c = search needs
 returns-2 : tie.Need-returns-2
 returns-2 c =
     let m = c .before .before .before .before .before .before .before .before in
-    product-done _ _ _ _ _ _ _ (m .before .before .before .before .before .before .any-of .ensures) _ (m .made .given .1) _ _ _ (c .before .before .before .before .and .ensures)
+    product-done _ _ _ _ _ _ _ (m .before .before .before .before .before .before .any-of .ensures) _ (m .made .given .1) _ _ _
+    (c .before .before .before .before .and .ensures)
 
 pub product-spec : {M : Type 1} → statement M
 product-spec =

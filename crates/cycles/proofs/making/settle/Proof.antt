@@ -49,7 +49,8 @@ loop-again c =
     let h = n .before .before .before .before in
     take-step _ _ _ _ _ _ _ _ _ _ _ (n .before .before .before .loop-test .taken) (n .before .before .node-at .ensures) (n .node-at2 .ensures)
     (c .before .before .before .set-node .ensures) (c .next-member2 .ensures)
-    (⊎-elim (λ w e. absurd (false≢true (sym (w .1) ∙ e))) (λ w e. (sym (w .1) ∙ e, w .0 .left)) (c .before .before .before .before .before .if1 .came)) (h .loop .inv)
+    (⊎-elim (λ w e. absurd (false≢true (sym (w .1) ∙ e))) (λ w e. (sym (w .1) ∙ e, w .0 .left)) (c .before .before .before .before .before .if1 .came))
+    (h .loop .inv)
 
 same-length : tie.Need-same-length Inv-loop μ-loop
 same-length c = c .before .loop .inv .long ∙ sym (c .before .before .before .before .before .pre .0)

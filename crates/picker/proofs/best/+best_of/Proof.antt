@@ -135,12 +135,13 @@ best-of-remember-requires t c κs =
     let s = start t (here t d) in
     let x = d .before .before .before .before .before .before .before .before .best-of in
     let y = d .before .before .before .best-of2 in
+    let h = d .before .before .before .before .before .held in
     let b = branch t (here t d) in
     let known = here t d .before .before .before .before .shared-slice-known2 .given in (
       omega (arith, s .pre .1 .pairs, x .kept .1 .0, y .kept .1 .0),
       code-small (s .pre .1) b,
-      small-whole (s .pre .1) b (d .before .before .before .before .before .held .result) (d .lighter .result) (x .ensures .told (b .low .tree) (b .low .stands))
-          (y .ensures .told (b .high .tree) (b .high .stands)) (d .before .before .before .before .before .held .ensures) (d .lighter .ensures) (λ u. known u .fits),
+      small-whole (s .pre .1) b (h .result) (d .lighter .result) (x .ensures .told (b .low .tree) (b .low .stands))
+          (y .ensures .told (b .high .tree) (b .high .stands)) (h .ensures) (d .lighter .ensures) (λ u. known u .fits),
     )
 
 best-of-returns-2 : (t : ℕ) → best-of-lts.Need-returns-2 (callees t) (best-of-at t) best-of.Post
@@ -162,9 +163,10 @@ best-of-returns-4 t c =
     let s = start t (here t d) in
     let x = d .before .before .before .before .before .before .before .before .best-of in
     let y = d .before .before .before .best-of2 in
+    let h = d .before .before .before .before .before .held in
     let b = branch t (here t d) in
-    walked-whole (s .pre .1) b (d .before .before .before .before .before .held .result) (d .lighter .result) (x .ensures .told (b .low .tree) (b .low .stands))
-    (y .ensures .told (b .high .tree) (b .high .stands)) (d .before .before .before .before .before .held .ensures) (d .lighter .ensures) (y .last .1 .0)
+    walked-whole (s .pre .1) b (h .result) (d .lighter .result) (x .ensures .told (b .low .tree) (b .low .stands))
+    (y .ensures .told (b .high .tree) (b .high .stands)) (h .ensures) (d .lighter .ensures) (y .last .1 .0)
     (c .before .before .remember .last .0) (y .ensures .memo) (c .before .before .remember .ensures)
 
 pub +best-of-spec : {M : Type 1} → statement M
