@@ -37,8 +37,8 @@ use Rattle.cycles.specs.declared.Asked.{Asked}
 use Rattle.cycles.specs.declared.Asked.the-variants.{Yes, No, Refused}
 use Rattle.cycles.specs.declared.Part.{Part}
 use Rattle.cycles.specs.declared.Part.the-variants as part
-use Rattle.cycles.specs.declared.making.Built.{Built}
-use Rattle.cycles.specs.declared.making.Built.the-variants.{Within, Exceeds}
+use Rattle.cycles.specs.declared.making.Cycle.{Cycle}
+use Rattle.cycles.specs.declared.making.Cycle.the-variants.{Within, Exceeds}
 use Rattle.cycles.specs.Work.{BuiltAt, TooSmall, ComponentPromise, PartPromise}
 use Rattle.cycles.proofs.Passes.{cycle-loop, loop-parts}
 use Rattle.cycles.proofs.Parts.{part-built}
@@ -46,7 +46,7 @@ use Rattle.cycles.proofs.Fits.{fit-more, excess-after}
 
 -- ---- one component
 
-module _ (rows : List ℕ) (C kept : ℕ) (ws ws₁ : List ℕ) (same : length ws₁ ≡ length ws) (built : Built)
+module _ (rows : List ℕ) (C kept : ℕ) (ws ws₁ : List ℕ) (same : length ws₁ ≡ length ws) (built : Cycle)
     (b : ComponentPromise (edge rows) (length rows) C ws₁ built) where
   pub part-full : built ≡ Exceeds → PartPromise (edge rows) (length rows) C kept (length ws) part.Exceeds
   part-full e = subst (TooSmall (edge rows) (length rows) C) same (subst (ComponentPromise (edge rows) (length rows) C ws₁) e b)

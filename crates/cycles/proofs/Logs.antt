@@ -6,10 +6,10 @@ use Prim.Native.Nat.{ℕ, zero, suc}
 use Rattle.masks.specs.Sets.{bit, pick, put, lowest}
 use Rattle.graphs.specs.Components.{inside}
 use Rattle.cycles.specs.Search.{Visits, finish, mark, along, targets, visit}
-use Rattle.cycles.specs.Work.{Log, begun, markL, alongL, targetsL, visitL}
+use Rattle.cycles.specs.Work.{VisitLog, begun, markL, alongL, targetsL, visitL}
 
 module _ (E : ℕ → ℕ → Bool) (n : ℕ) where
-  along-same : (go : ℕ → Log → Log) (go′ : ℕ → Visits → Visits) → ((w : ℕ) (s : Log) → go w s .visits ≡ go′ w (s .visits)) → (going v w : ℕ) (s : Log)
+  along-same : (go : ℕ → VisitLog → VisitLog) (go′ : ℕ → Visits → Visits) → ((w : ℕ) (s : VisitLog) → go w s .visits ≡ go′ w (s .visits)) → (going v w : ℕ) (s : VisitLog)
       → alongL E n go going v w s .visits ≡ along E n go′ going v w (s .visits)
   along-same go go′ same going v w s = cases (E v w) (bit going w) (bit (s .visits .over) w)
     where
@@ -21,14 +21,14 @@ module _ (E : ℕ → ℕ → Bool) (n : ℕ) where
       cases true false false = same w s
       cases false y z = refl
 
-  targets-same : (go : ℕ → Log → Log) (go′ : ℕ → Visits → Visits) → ((w : ℕ) (s : Log) → go w s .visits ≡ go′ w (s .visits)) → (going v m : ℕ) (s : Log)
+  targets-same : (go : ℕ → VisitLog → VisitLog) (go′ : ℕ → Visits → Visits) → ((w : ℕ) (s : VisitLog) → go w s .visits ≡ go′ w (s .visits)) → (going v m : ℕ) (s : VisitLog)
       → targetsL E n go going v m s .visits ≡ targets E n go′ going v m (s .visits)
   unfolding targetsL targets
   targets-same go go′ same going v zero s = refl
   targets-same go go′ same going v (suc m) s =
       along-same go go′ same going v m (targetsL E n go going v m s) ∙ ap (along E n go′ going v m) (targets-same go go′ same going v m s)
 
-  pub visit-same : (d going v : ℕ) (s : Log) → visitL E n d going v s .visits ≡ visit E n d going v (s .visits)
+  pub visit-same : (d going v : ℕ) (s : VisitLog) → visitL E n d going v s .visits ≡ visit E n d going v (s .visits)
   unfolding visitL visit
   visit-same zero going v s = refl
   visit-same (suc d) going v s =

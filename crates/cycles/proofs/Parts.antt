@@ -14,8 +14,8 @@ use Rattle.nodes.specs.declared.Made.{Made}
 use Rattle.nodes.specs.declared.Made.the-variants.{At, Full}
 use Rattle.nodes.specs.declared.Node.{Node}
 use Rattle.nodes.proofs.Clearing.{zeroed-length}
-use Rattle.cycles.specs.declared.making.Built.{Built}
-use Rattle.cycles.specs.declared.making.Built.the-variants.{Within, Exceeds}
+use Rattle.cycles.specs.declared.making.Cycle.{Cycle}
+use Rattle.cycles.specs.declared.making.Cycle.the-variants.{Within, Exceeds}
 use Rattle.cycles.specs.Work.{Buildable, BuiltAt, BuildPromise, ComponentPromise}
 
 zeroed-self : (ws ws′ : List ℕ) → ws′ ≡ zeroed ws → ws′ ≡ replicate (length ws′) 0
@@ -34,7 +34,7 @@ emptied-buildable rows C ws ws′ ms ms′ s p l e f =
 
 -- ---- where the function stands
 
-module _ (E : ℕ → ℕ → Bool) (n C : ℕ) (ws : List ℕ) (built : Built) (p : ComponentPromise E n C ws built) (k : ℕ) (c : Node) (e : built ≡ Within k c) where
+module _ (E : ℕ → ℕ → Bool) (n C : ℕ) (ws : List ℕ) (built : Cycle) (p : ComponentPromise E n C ws built) (k : ℕ) (c : Node) (e : built ≡ Within k c) where
   pub part-built : (k ≤ length ws) × BuiltAt E n C (take k ws) (c .0)
   part-built = subst (ComponentPromise E n C ws) e p
 
@@ -51,7 +51,7 @@ module _ (E : ℕ → ℕ → Bool) (n C : ℕ) (ws : List ℕ) where
     pub built-none : made ≡ Full → ComponentPromise E n C ws Exceeds
     built-none e = subst (BuildPromise E n C ws) e b
 
-  pub built-part : (k : ℕ) (front : List ℕ) (built : Built) (j : ℕ) (c : Node) → built ≡ Within j c → ComponentPromise E n C front built
+  pub built-part : (k : ℕ) (front : List ℕ) (built : Cycle) (j : ℕ) (c : Node) → built ≡ Within j c → ComponentPromise E n C front built
       → ComponentPromise E n C (front ++ drop k ws) built
   built-part k front built j c e b =
       let d = part-built E n C front built b j c e in

@@ -25,7 +25,7 @@ use Rattle.masks.proofs.Those.{members-lt}
 use Rattle.graphs.proofs.Parts.{inside-edge}
 use Rattle.cycles.specs.Search.{searched, backOf}
 use Rattle.cycles.proofs.Each.{ones-some}
-use Rattle.cycles.specs.Work.{Log, begun, visitL, Later}
+use Rattle.cycles.specs.Work.{VisitLog, begun, visitL, Later}
 use Rattle.cycles.proofs.Logs.{visit-same, orderOf}
 use Rattle.cycles.proofs.Visits.{Did, did, reached, no-round, root-out}
 
@@ -76,7 +76,7 @@ module _ {E : ℕ → ℕ → Bool} {n C : ℕ} (low : EdgesBelow E n) (comp : C
   abbrev root : ℕ
   root = lowest n (bit C)
 
-  abbrev final : Log
+  abbrev final : VisitLog
   final = visitL (inside E C) n n 0 root begun
 
   final-did : Did (inside E C) n (bit C) inner-ends member-lt 0 begun final × Of root (final .order)

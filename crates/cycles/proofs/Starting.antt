@@ -17,7 +17,7 @@ use Rattle.graphs.specs.Work.{Sound}
 use Rattle.graphs.proofs.Components.{EdgesBelow}
 use Rattle.graphs.proofs.InOrder.{sound-below}
 use Rattle.cycles.specs.Search.{backOf}
-use Rattle.cycles.specs.Work.{Log, begun, visitL, logOf, Visitable, VisitDone, Sorted, Searched}
+use Rattle.cycles.specs.Work.{VisitLog, begun, visitL, logOf, Visitable, VisitDone, Sorted, Searched}
 use Rattle.cycles.specs.declared.search.Order.{Order}
 use Rattle.cycles.specs.declared.search.Visited.{Visited}
 use Rattle.cycles.proofs.Logs.{visit-same, orderOf}
@@ -75,7 +75,7 @@ module _ (rows : List ℕ) (C : ℕ) (sound : Sound rows) (comp : Component (edg
         }
 
     module _ (end : Visited) (did : VisitDone rows C r going s end) where
-      final : Log
+      final : VisitLog
       final = visitL (inside (edge rows) C) (length rows) (length rows) 0 (lowest (length rows) (bit C)) begun
 
       began : logOf s ≡ begun

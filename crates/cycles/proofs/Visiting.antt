@@ -19,12 +19,12 @@ use Rattle.masks.proofs.Nexts.{onward, Next, next-is, next-after}
 use Rattle.graphs.specs.Graph.{edge}
 use Rattle.graphs.specs.Components.{inside}
 use Rattle.graphs.proofs.Parts.{inside-edge}
-use Rattle.cycles.specs.Work.{Log, finishL, markL, alongL, targetsL, visitL, logOf, Marked, Finished, size, Held, Visitable, VisitDone}
+use Rattle.cycles.specs.Work.{VisitLog, finishL, markL, alongL, targetsL, visitL, logOf, Marked, Finished, size, Consistent, Visitable, VisitDone}
 use Rattle.cycles.specs.declared.search.Visited.{Visited}
 
 -- ---- the definition: one edge, and positions with none
 
-module _ (E : ℕ → ℕ → Bool) (n : ℕ) (go : ℕ → Log → Log) (going v : ℕ) (s : Log) where
+module _ (E : ℕ → ℕ → Bool) (n : ℕ) (go : ℕ → VisitLog → VisitLog) (going v : ℕ) (s : VisitLog) where
   targets-step : (w : ℕ) → targetsL E n go going v (w + 1) s ≡ alongL E n go going v w (targetsL E n go going v w s)
   unfolding targetsL
   targets-step w = ap (λ m. targetsL E n go going v m s) (add-one w)
@@ -52,7 +52,7 @@ log-is s o b xs p q r = λ i. record { visits = record { over = p i; back = q i 
 marked-log : (u : ℕ) (s r : Visited) → Marked u s r → logOf r ≡ markL u (logOf s)
 marked-log u s r m = log-is r _ _ _ (ap number (m .over)) (m .back) (rw (m .count, m .flops))
 
-marked-held : (n going u : ℕ) (s r : Visited) → Marked u s r → Held n going s → Held n going r
+marked-held : (n going u : ℕ) (s r : Visited) → Marked u s r → Consistent n going s → Consistent n going r
 marked-held n going u s r m h =
     record {
       long = ap length (m .flops) ∙ h .long;
@@ -60,7 +60,7 @@ marked-held n going u s r m h =
       apart = λ x t i. h .apart x t (subst (λ z. T (bit (number z) x)) (m .over) i);
     }
 
-module _ (n going v : ℕ) (s : Visited) (inner : v < n) (held : Held n (put going v) s) where
+module _ (n going v : ℕ) (s : Visited) (inner : v < n) (held : Consistent n (put going v) s) where
   -- v itself is not over, so one more is listed
   finish-fresh : bit (number (s .over)) v ≡ false
   finish-fresh = T-false _ (held .apart v (in-put going v))
@@ -77,7 +77,7 @@ module _ (n going v : ℕ) (s : Visited) (inner : v < n) (held : Held n (put goi
         log-is r _ _ _ (fin .over) (ap number (fin .back))
         (rw (fin .count, fin .flops, add-one (s .count)) (take-suc-set (s .flops) (s .count) v (omega (arith, finish-room, held .long))))
 
-    pub finished-held : (T (bit going v) → ⊥) → Held n going r
+    pub finished-held : (T (bit going v) → ⊥) → Consistent n going r
     finished-held new =
         record {
           long = ap length (fin .flops) ∙ length-set (s .flops) (s .count) v ∙ held .long;
@@ -93,7 +93,7 @@ module _ (n going v : ℕ) (s : Visited) (inner : v < n) (held : Held n (put goi
 -- ---- the loop over the targets
 
 -- the visit of a target, while those of `on` are being visited
-abbrev pub going-on : List ℕ → ℕ → ℕ → ℕ → Log → Log
+abbrev pub going-on : List ℕ → ℕ → ℕ → ℕ → VisitLog → VisitLog
 going-on rows C on = visitL (inside (edge rows) C) (length rows) (length rows - size (length rows) on) on
 
 -- in a block, with the component C: of v, where those of `on` are being visited, v with them. The targets below w were gone along, and w is the next or 64
@@ -101,7 +101,7 @@ pub record Looking (rows : List ℕ) (C v on : ℕ) (begun s : Visited) (w : ℕ
   pub bounded : w ≤ 64
   pub target : w < 64 → T (inside (edge rows) C v w)
   pub log : logOf s ≡ targetsL (inside (edge rows) C) (length rows) (going-on rows C on) on v w (logOf begun)
-  pub held : Held (length rows) on s
+  pub held : Consistent (length rows) on s
 
 module _ (rows : List ℕ) (C v on : ℕ) (begun : Visited) (targets : ℕ) (row : (w : ℕ) → bit targets w ≡ inside (edge rows) C v w) where
   abbrev E : ℕ → ℕ → Bool
@@ -110,11 +110,11 @@ module _ (rows : List ℕ) (C v on : ℕ) (begun : Visited) (targets : ℕ) (row
   abbrev n : ℕ
   n = length rows
 
-  abbrev go : ℕ → Log → Log
+  abbrev go : ℕ → VisitLog → VisitLog
   go = going-on rows C on
 
   -- from i on, where those below i were gone along, to the next target
-  look-to : (i w : ℕ) (s : Visited) → i ≤ 64 → w ≡ lowest 64 (onward targets i) → logOf s ≡ targetsL E n go on v i (logOf begun) → Held n on s
+  look-to : (i w : ℕ) (s : Visited) → i ≤ 64 → w ≡ lowest 64 (onward targets i) → logOf s ≡ targetsL E n go on v i (logOf begun) → Consistent n on s
       → Looking rows C v on begun s w
   look-to i w s l e log held =
       let x : Next targets i w = next-is targets i w e in
@@ -125,12 +125,12 @@ module _ (rows : List ℕ) (C v on : ℕ) (begun : Visited) (targets : ℕ) (row
         held = held;
       }
 
-  pub look-first : (w : ℕ) → w ≡ lowest 64 (onward targets 0) → Held n on begun → Looking rows C v on begun begun w
+  pub look-first : (w : ℕ) → w ≡ lowest 64 (onward targets 0) → Consistent n on begun → Looking rows C v on begun begun w
   unfolding targetsL
   look-first w e held = look-to 0 w begun (omega arith) e refl held
 
   module _ (s r : Visited) (w after : ℕ) (l : w < 64) (e : after ≡ lowest 64 (onward targets (w + 1))) (look : Looking rows C v on begun s w) where
-    turn : logOf r ≡ pick (bit on w) (markL v (logOf s)) (pick (bit (number (s .over)) w) (logOf s) (go w (logOf s))) → Held n on r
+    turn : logOf r ≡ pick (bit on w) (markL v (logOf s)) (pick (bit (number (s .over)) w) (logOf s) (go w (logOf s))) → Consistent n on r
         → Looking rows C v on begun r after
     turn log held =
         look-to (w + 1) after r (omega arith) e
@@ -143,7 +143,7 @@ module _ (rows : List ℕ) (C v on : ℕ) (begun : Visited) (targets : ℕ) (row
     turn-mark t m = turn (marked-log v s r m ∙ rw t) (marked-held n on v s r m (look .held))
 
     pub turn-over : bit on w ≡ false → bit (number (s .over)) w ≡ true → r ≡ s → Looking rows C v on begun r after
-    turn-over t o q = turn (ap logOf q ∙ rw (t, o)) (subst (Held n on) (sym q) (look .held))
+    turn-over t o q = turn (ap logOf q ∙ rw (t, o)) (subst (Consistent n on) (sym q) (look .held))
 
     pub turn-visit : bit on w ≡ false → bit (number (s .over)) w ≡ false → VisitDone rows C w on s r → Looking rows C v on begun r after
     turn-visit t o d = turn (d .log ∙ rw (t, o)) (d .held)
@@ -166,7 +166,7 @@ module _ (rows : List ℕ) (C v going : ℕ) (begun : Visited) (may : Visitable 
     going-falls t e =
         rw isOn (omega (arith, going-size, count-le (length rows) (put going v)))
 
-    pub begun-held : Held (length rows) on begun
+    pub begun-held : Consistent (length rows) on begun
     begun-held =
         rw isOn
         (record {
@@ -189,8 +189,8 @@ module _ (rows : List ℕ) (C v going : ℕ) (begun : Visited) (may : Visitable 
         }
 
     module _ (s : Visited) (w : ℕ) (l : 64 ≤ w) (look : Looking rows C v on begun s w) where
-      held-on : Held (length rows) (put going v) s
-      held-on = subst (λ z. Held (length rows) z s) isOn (look .held)
+      held-on : Consistent (length rows) (put going v) s
+      held-on = subst (λ z. Consistent (length rows) z s) isOn (look .held)
 
       pub end-room : s .count < 64
       end-room = omega (arith, finish-room (length rows) going v s may-inner held-on, may .sound .few)

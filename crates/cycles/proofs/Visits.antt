@@ -19,15 +19,15 @@ use Rattle.graphs.specs.Light.{left}
 use Rattle.graphs.proofs.Lists.{Of-left, Of-right, Of-cases, of-at, differ-at, differ-snoc}
 use Rattle.masks.proofs.Bits.{not-zero}
 use Rattle.masks.proofs.Members.{in-put, in-more, in-less}
-use Rattle.cycles.specs.Work.{Log, begun, finishL, markL, alongL, targetsL, visitL}
+use Rattle.cycles.specs.Work.{VisitLog, begun, finishL, markL, alongL, targetsL, visitL}
 
 -- in a graph E whose edges are between flip-flops that pass a test, all below n
 module _ (E : ℕ → ℕ → Bool) (n : ℕ) (P : ℕ → Bool) (ends : (u w : ℕ) → T (E u w) → T (P u) × T (P w)) (low : (v : ℕ) → T (P v) → v < n) where
   -- the flip-flop at the place i
-  abbrev pub at : Log → ℕ → ℕ
+  abbrev pub at : VisitLog → ℕ → ℕ
   at s i = getD (s .order) i 0
 
-  pub record Inv (going : ℕ) (s : Log) : Type 0 where
+  pub record Inv (going : ℕ) (s : VisitLog) : Type 0 where
     pub listed : (x : ℕ) → T (bit (s .visits .over) x) ↔ Of x (s .order)
     pub differ : Differ (s .order)
     pub within : (x : ℕ) → Of x (s .order) → T (P x)
@@ -36,47 +36,47 @@ module _ (E : ℕ → ℕ → Bool) (n : ℕ) (P : ℕ → Bool) (ends : (u w : 
     pub earlier : (i : ℕ) → i < length (s .order) → T (left (s .visits .back) (at s i)) → (w : ℕ) → T (E (at s i) w) → (j : ℕ) × (j < i) × (at s j ≡ w)
 
   -- a part of the search: more visits end, more are in B, and none that is being visited ends
-  pub record Grows (going : ℕ) (s t : Log) : Type 0 where
+  pub record Grows (going : ℕ) (s t : VisitLog) : Type 0 where
     pub order : (x : ℕ) → Of x (s .order) → Of x (t .order)
     pub back : (x : ℕ) → T (bit (s .visits .back) x) → T (bit (t .visits .back) x)
     pub fresh : (x : ℕ) → T (bit going x) → Of x (t .order) → Of x (s .order)
 
-  grows-refl : (going : ℕ) (s : Log) → Grows going s s
+  grows-refl : (going : ℕ) (s : VisitLog) → Grows going s s
   grows-refl going s = record { order = λ x h. h; back = λ x h. h; fresh = λ x o h. h }
 
-  grows-trans : {going : ℕ} {s t r : Log} → Grows going s t → Grows going t r → Grows going s r
+  grows-trans : {going : ℕ} {s t r : VisitLog} → Grows going s t → Grows going t r → Grows going s r
   grows-trans g h =
       record { order = λ x k. h .order x (g .order x k); back = λ x k. h .back x (g .back x k); fresh = λ x o k. g .fresh x o (h .fresh x o k) }
 
   -- of those that are being visited, the visit of another puts none into B; and a step along an edge of v puts at most v
-  abbrev pub Unmarked : ℕ → Log → Log → Type 0
+  abbrev pub Unmarked : ℕ → VisitLog → VisitLog → Type 0
   Unmarked going s t = (x : ℕ) → T (bit going x) → T (bit (t .visits .back) x) → T (bit (s .visits .back) x)
 
-  abbrev Own : ℕ → ℕ → Log → Log → Type 0
+  abbrev Own : ℕ → ℕ → VisitLog → VisitLog → Type 0
   Own going v s t =
       (x : ℕ) → T (bit going x) → T (bit (t .visits .back) x) → T (bit (s .visits .back) x) ⊎ ((x ≡ v) × ((w : ℕ) × T (bit going w) × T (E v w)))
 
-  pub record Did (going : ℕ) (s t : Log) : Type 0 where
+  pub record Did (going : ℕ) (s t : VisitLog) : Type 0 where
     pub inv : Inv going t
     pub grows : Grows going s t
     pub unmarked : Unmarked going s t
 
   -- the visit of a new flip-flop
-  abbrev Good : ℕ → (ℕ → Log → Log) → Type 0
+  abbrev Good : ℕ → (ℕ → VisitLog → VisitLog) → Type 0
   Good going go =
-      (w : ℕ) (s : Log) → Inv going s → (T (bit going w) → ⊥) → (Of w (s .order) → ⊥) → T (P w) → Did going s (go w s) × Of w (go w s .order)
+      (w : ℕ) (s : VisitLog) → Inv going s → (T (bit going w) → ⊥) → (Of w (s .order) → ⊥) → T (P w) → Did going s (go w s) × Of w (go w s .order)
 
   -- an edge of v was gone along
-  abbrev Settled : ℕ → ℕ → ℕ → Log → Type 0
+  abbrev Settled : ℕ → ℕ → ℕ → VisitLog → Type 0
   Settled going v w s = T (E v w) → Of w (s .order) ⊎ (T (bit going w) × T (bit (s .visits .back) v))
 
-  settled-on : (going v w : ℕ) (s t : Log) → Grows going s t → Settled going v w s → Settled going v w t
+  settled-on : (going v w : ℕ) (s t : VisitLog) → Grows going s t → Settled going v w s → Settled going v w t
   settled-on going v w s t g f e = ⊎-elim (λ k. inl (g .order w k)) (λ k. inr (k .0, g .back v (k .1))) (f e)
 
   left-less : (s t : ℕ) → ((x : ℕ) → T (bit s x) → T (bit t x)) → (x : ℕ) → T (left t x) → T (left s x)
   left-less s t h x l = T-no (bit s x) (λ k. T-not (bit t x) l (h x k))
 
-  mark-inv : (going v : ℕ) (s : Log) → T (P v) → Inv going s → Inv going (markL v s)
+  mark-inv : (going v : ℕ) (s : VisitLog) → T (P v) → Inv going s → Inv going (markL v s)
   mark-inv going v s pv i =
       record {
         listed = i .listed;
@@ -88,7 +88,7 @@ module _ (E : ℕ → ℕ → Bool) (n : ℕ) (P : ℕ → Bool) (ends : (u w : 
       }
 
   -- more are being visited
-  wider : (going v : ℕ) (s : Log) → Inv going s → Inv (put going v) s
+  wider : (going v : ℕ) (s : VisitLog) → Inv going s → Inv (put going v) s
   wider going v s i =
       record {
         listed = i .listed;
@@ -100,7 +100,7 @@ module _ (E : ℕ → ℕ → Bool) (n : ℕ) (P : ℕ → Bool) (ends : (u w : 
       }
 
   -- the visit of v ends: its edges lead to those that ended before, or to ones being visited, and then v is in B
-  module _ (going v : ℕ) (s : Log) (i : Inv (put going v) s) (new : Of v (s .order) → ⊥) (pv : T (P v)) (out : (w : ℕ) → Settled (put going v) v w s) where
+  module _ (going v : ℕ) (s : VisitLog) (i : Inv (put going v) s) (new : Of v (s .order) → ⊥) (pv : T (P v)) (out : (w : ℕ) → Settled (put going v) v w s) where
     there : (x : ℕ) → Of x (s .order) → Of x (s .order ++ (v ∷ []))
     there x h = Of-left x (s .order) (v ∷ []) h
 
@@ -167,15 +167,15 @@ module _ (E : ℕ → ℕ → Bool) (n : ℕ) (P : ℕ → Bool) (ends : (u w : 
         }
 
   -- what going along edges of v does
-  record Went (going v : ℕ) (s t : Log) : Type 0 where
+  record Went (going v : ℕ) (s t : VisitLog) : Type 0 where
     inv : Inv going t
     grows : Grows going s t
     own : Own going v s t
 
-  went-none : (going v : ℕ) (s : Log) → Inv going s → Went going v s s
+  went-none : (going v : ℕ) (s : VisitLog) → Inv going s → Went going v s s
   went-none going v s i = record { inv = i; grows = grows-refl going s; own = λ x o h. inl h }
 
-  went-trans : {going v : ℕ} {s t r : Log} → Went going v s t → Went going v t r → Went going v s r
+  went-trans : {going v : ℕ} {s t r : VisitLog} → Went going v s t → Went going v t r → Went going v s r
   went-trans f g =
       record {
         inv = g .inv;
@@ -183,7 +183,7 @@ module _ (E : ℕ → ℕ → Bool) (n : ℕ) (P : ℕ → Bool) (ends : (u w : 
         own = λ x o h. ⊎-elim (λ k. f .own x o k) (λ k. inr k) (g .own x o h);
       }
 
-  along-does : (going : ℕ) (go : ℕ → Log → Log) → Good going go → (v w : ℕ) (s : Log) → Inv going s
+  along-does : (going : ℕ) (go : ℕ → VisitLog → VisitLog) → Good going go → (v w : ℕ) (s : VisitLog) → Inv going s
       → Went going v s (alongL E n go going v w s) × Settled going v w (alongL E n go going v w s)
   along-does going go good v w s i = cases (E v w) refl (bit going w) refl (bit (s .visits .over) w) refl
     where
@@ -205,13 +205,13 @@ module _ (E : ℕ → ℕ → Bool) (n : ℕ) (P : ℕ → Bool) (ends : (u w : 
           let r = good w s i (λ h. subst T f h) (λ h. subst T g (i .listed w .1 h)) (ends v w (subst T (sym e) tt) .1) in
           (record { inv = r .0 .inv; grows = r .0 .grows; own = λ x o h. inl (r .0 .unmarked x o h) }, λ t. inl (r .1))
 
-  targets-does : (going : ℕ) (go : ℕ → Log → Log) → Good going go → (v : ℕ) (s : Log) → Inv going s → (m : ℕ)
+  targets-does : (going : ℕ) (go : ℕ → VisitLog → VisitLog) → Good going go → (v : ℕ) (s : VisitLog) → Inv going s → (m : ℕ)
       → Went going v s (targetsL E n go going v m s) × ((w : ℕ) → w < m → Settled going v w (targetsL E n go going v m s))
   unfolding targetsL
   targets-does going go good v s i zero = (went-none going v s i, λ w k. absurd (omega arith))
   targets-does going go good v s i (suc m) = more (targets-does going go good v s i m)
     where
-      t : Log
+      t : VisitLog
       t = targetsL E n go going v m s
 
       more : Went going v s t × ((w : ℕ) → w < m → Settled going v w t)
@@ -228,14 +228,14 @@ module _ (E : ℕ → ℕ → Bool) (n : ℕ) (P : ℕ → Bool) (ends : (u w : 
               settled-on going v w t (alongL E n go going v m t) g (r .1 w (omega arith))
 
   -- the targets of v, and then its end
-  module _ (going v : ℕ) (go : ℕ → Log → Log) (good : Good (put going v) go) (s : Log) (i : Inv going s) (no-going : T (bit going v) → ⊥)
+  module _ (going v : ℕ) (go : ℕ → VisitLog → VisitLog) (good : Good (put going v) go) (s : VisitLog) (i : Inv going s) (no-going : T (bit going v) → ⊥)
       (new : Of v (s .order) → ⊥) (pv : T (P v)) where
     went : Went (put going v) v s (targetsL E n go (put going v) v n s)
     went = targets-does (put going v) go good v s (wider going v s i) n .0
 
     ended : Did going s (finishL v (targetsL E n go (put going v) v n s))
     ended =
-        let t : Log = targetsL E n go (put going v) v n s in
+        let t : VisitLog = targetsL E n go (put going v) v n s in
         record {
           inv =
               finish-inv going v t (went .inv) (λ h. new (went .grows .fresh v (in-put going v) h)) pv
@@ -283,7 +283,7 @@ module _ (E : ℕ → ℕ → Bool) (n : ℕ) (P : ℕ → Bool) (ends : (u w : 
 
   -- the whole search from r
   module _ (r : ℕ) (pr : T (P r)) where
-    abbrev pub end : Log
+    abbrev pub end : VisitLog
     end = visitL E n n 0 r begun
 
     pub did : Did 0 begun end × Of r (end .order)

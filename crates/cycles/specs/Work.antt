@@ -23,43 +23,43 @@ use Rattle.nodes.specs.declared.Made.the-variants.{At, Full}
 use Rattle.cycles.specs.Search.{Visits, finish, mark, backOf}
 use Rattle.cycles.specs.declared.Part.{Part}
 use Rattle.cycles.specs.declared.Part.the-variants as part
-use Rattle.cycles.specs.declared.making.Built.{Built}
-use Rattle.cycles.specs.declared.making.Built.the-variants.{Within, Exceeds}
+use Rattle.cycles.specs.declared.making.Cycle.{Cycle}
+use Rattle.cycles.specs.declared.making.Cycle.the-variants.{Within, Exceeds}
 use Rattle.cycles.specs.declared.search.Order.{Order}
 use Rattle.cycles.specs.declared.search.Visited.{Visited}
 use Rattle.cycles.specs.Passes.{any, each, joined, ors, F, atFlop, passes, cycle, functions}
 
 -- ---- the search that also lists the flip-flops in the order in which their visits end
 
-pub record Log : Type 0 where
+pub record VisitLog : Type 0 where
   pub visits : Visits
   pub order : List ℕ
 
-abbrev pub begun : Log
+abbrev pub begun : VisitLog
 begun = record { visits = record { over = 0; back = 0 }; order = [] }
 
-abbrev pub finishL : ℕ → Log → Log
+abbrev pub finishL : ℕ → VisitLog → VisitLog
 finishL v s = record { visits = finish v (s .visits); order = s .order ++ (v ∷ []) }
 
-abbrev pub markL : ℕ → Log → Log
+abbrev pub markL : ℕ → VisitLog → VisitLog
 markL u s = record { visits = mark u (s .visits); order = s .order }
 
 module _ (E : ℕ → ℕ → Bool) (n : ℕ) where
-  abbrev pub alongL : (ℕ → Log → Log) → ℕ → ℕ → ℕ → Log → Log
+  abbrev pub alongL : (ℕ → VisitLog → VisitLog) → ℕ → ℕ → ℕ → VisitLog → VisitLog
   alongL go going v w s = pick (E v w) (pick (bit going w) (markL v s) (pick (bit (s .visits .over) w) s (go w s))) s
 
-  unfoldable pub targetsL : (ℕ → Log → Log) → ℕ → ℕ → ℕ → Log → Log
+  unfoldable pub targetsL : (ℕ → VisitLog → VisitLog) → ℕ → ℕ → ℕ → VisitLog → VisitLog
   targetsL go going v zero s = s
   targetsL go going v (suc m) s = alongL go going v m (targetsL go going v m s)
 
-  unfoldable pub visitL : ℕ → ℕ → ℕ → Log → Log
+  unfoldable pub visitL : ℕ → ℕ → ℕ → VisitLog → VisitLog
   visitL zero going v s = s
   visitL (suc d) going v s = finishL v (targetsL (visitL d (put going v)) (put going v) v n s)
 
 -- ---- the code's record of visits
 
 -- what it says
-abbrev pub logOf : Visited → Log
+abbrev pub logOf : Visited → VisitLog
 logOf s =
     record {
       visits = record { over = number (s .over); back = number (s .back) };
@@ -85,7 +85,7 @@ abbrev pub size : ℕ → ℕ → ℕ
 size n m = weight (λ v. 1) n m
 
 -- it lists as many as are over, and none of those is being visited
-pub record Held (n going : ℕ) (s : Visited) : Type 0 where
+pub record Consistent (n going : ℕ) (s : Visited) : Type 0 where
   pub long : length (s .flops) ≡ 64
   pub counted : s .count ≡ size n (number (s .over))
   pub apart : (x : ℕ) → T (bit going x) → T (bit (number (s .over)) x) → ⊥
@@ -97,12 +97,12 @@ pub record Visitable (rows : List ℕ) (C v going : ℕ) (s : Visited) : Type 0 
   pub member : T (bit C v)
   pub new : T (bit going v) → ⊥
   pub fresh : T (bit (number (s .over)) v) → ⊥
-  pub held : Held (length rows) going s
+  pub held : Consistent (length rows) going s
 
 -- what it did
 pub record VisitDone (rows : List ℕ) (C v going : ℕ) (s r : Visited) : Type 0 where
   pub log : logOf r ≡ visitL (inside (edge rows) C) (length rows) (length rows - size (length rows) going) going v (logOf s)
-  pub held : Held (length rows) going r
+  pub held : Consistent (length rows) going r
 
 -- ---- the order in which visits end
 
@@ -299,7 +299,7 @@ BuildPromise E n C ws (At c) = BuiltAt E n C ws (c .0)
 BuildPromise E n C ws Full = TooSmall E n C (length ws)
 
 -- the same, in a part of the room
-abbrev pub ComponentPromise : (ℕ → ℕ → Bool) → ℕ → ℕ → List ℕ → Built → Type 0
+abbrev pub ComponentPromise : (ℕ → ℕ → Bool) → ℕ → ℕ → List ℕ → Cycle → Type 0
 ComponentPromise E n C ws (Within k c) = (k ≤ length ws) × BuiltAt E n C (take k ws) (c .0)
 ComponentPromise E n C ws Exceeds = TooSmall E n C (length ws)
 

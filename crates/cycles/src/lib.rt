@@ -13,7 +13,7 @@ ghost use Rattle.cycles.specs.Promise.{AskAnswer, AskPromise};
 ghost use Rattle.cycles.specs.Work.{PartPromise};
 use graphs::Checked;
 use graphs::Refusal;
-pub use making::Built;
+pub use making::Cycle;
 pub use making::build_component;
 use masks::Mask;
 use masks::Vertex;
@@ -114,7 +114,7 @@ fn ask_part(rows: &[u64], members: Mask, kept: Mask, nodes: &mut [u64], memo: &m
     ensures { λ r. ⌜ PartPromise (edge (now (rows .entry))) (length (now (rows .entry))) (number members) (number kept) (length (now (nodes .entry))) r ⌝ }
 {
     let built = build_component(rows, members, nodes, memo);
-    let Built::Within(words, function) = built else {
+    let Cycle::Within(words, function) = built else {
         return Part::Exceeds;
     };
     let room = &nodes[..words];

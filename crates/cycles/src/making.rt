@@ -22,13 +22,13 @@ use nodes::Made;
 use nodes::Node;
 
 // The cycle function of a component: in the first so many words of the node room, of which exactly the need is in use; or its need exceeds the room.
-pub enum Built {
+pub enum Cycle {
     Within(usize, Node),
     Exceeds,
 }
 
 // The cycle function of a component, in a part of the rooms where that is enough. What they held matters not: "the node room is emptied before each".
-pub fn build_component(rows: &[u64], members: Mask, nodes: &mut [u64], memo: &mut [u64]) -> Built
+pub fn build_component(rows: &[u64], members: Mask, nodes: &mut [u64], memo: &mut [u64]) -> Cycle
     requires { ⌜ Sound (now rows) × Component (edge (now rows)) (number members) × (length (now nodes) ≤ 65536) ⌝ }
     ensures { λ r. ⌜ ComponentPromise (edge (now (rows .entry))) (length (now (rows .entry))) (number members) (now (nodes .exit)) r ⌝ }
 {
@@ -38,7 +38,7 @@ pub fn build_component(rows: &[u64], members: Mask, nodes: &mut [u64], memo: &mu
     }
     let memory = first_words(members, memo.len());
     let built = build_in(rows, members, &mut nodes[..words], &mut memo[..memory]);
-    let Built::Exceeds = built else {
+    let Cycle::Exceeds = built else {
         return built;
     };
     build_in(rows, members, nodes, memo)
@@ -61,15 +61,15 @@ fn first_words(members: Mask, room: usize) -> usize
 }
 
 // In the whole of the lent rooms, emptied.
-fn build_in(rows: &[u64], members: Mask, nodes: &mut [u64], memo: &mut [u64]) -> Built
+fn build_in(rows: &[u64], members: Mask, nodes: &mut [u64], memo: &mut [u64]) -> Cycle
     requires { ⌜ Sound (now rows) × Component (edge (now rows)) (number members) × (length (now nodes) ≤ 65536) ⌝ }
     ensures { λ r. ⌜ ComponentPromise (edge (now (rows .entry))) (length (now (rows .entry))) (number members) (now (nodes .exit)) r ⌝ }
 {
     nodes::clear(nodes);
     nodes::clear(memo);
     match build(rows, members, nodes, memo) {
-        Made::At(function) => Built::Within(nodes.len(), function),
-        Made::Full => Built::Exceeds,
+        Made::At(function) => Cycle::Within(nodes.len(), function),
+        Made::Full => Cycle::Exceeds,
     }
 }
 

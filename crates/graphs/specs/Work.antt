@@ -1,7 +1,9 @@
 -- What only the contracts of the code and its proofs cite: no part of document 01. Assumes nothing.
+use mathlib.Core.Path.{_≡_}
 use mathlib.Core.Logic.{_↔_}
 use mathlib.Core.Bool.{Bool, true, false}
 use mathlib.Core.List.{List}
+use mathlib.Core.Option.{none}
 use Prim.Native.Nat.{ℕ, _≤_, _<_, _^_}
 use lib.Bits.{bitOr}
 use lib.Dec.{T}
@@ -9,6 +11,11 @@ use lib.ListN.{length, getD}
 use Rattle.masks.specs.Sets.{bit, pick}
 use Rattle.graphs.specs.Graph.{Walk}
 use Rattle.graphs.specs.Components.{every, Component, Lowest}
+use Rattle.graphs.specs.Refusals.{first, checks}
+
+-- a block passes the checks
+abbrev pub Passes : List ℕ → List ℕ → Type 0
+Passes rows costs = first (checks rows (length costs)) ≡ none
 
 -- a block that passed the checks 1 and 3
 pub record Sound (rows : List ℕ) : Type 0 where

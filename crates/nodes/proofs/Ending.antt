@@ -8,7 +8,7 @@ use native.Mathlib.Omega.{arith}
 use Rattle.masks.specs.Sets.{pick}
 use Rattle.trees.specs.Tree.{Tree, joinT}
 use Rattle.nodes.specs.Codes.{Stands, is-off, is-on, Table}
-use Rattle.nodes.specs.Work.{Ended}
+use Rattle.nodes.specs.Work.{EndsPromise}
 use Rattle.nodes.specs.declared.memos.Seen.{Seen}
 use Rattle.nodes.proofs.Standing.{stands-one, stands-good}
 use Rattle.trees.proofs.Branches.{unitT, zeroT, join-left, join-right, join-self}
@@ -51,5 +51,5 @@ module _ (or : Bool) (a b : ℕ) (ws : List ℕ) (s t : Tree) (T : Table ws) (sa
 
 -- ---- what `ends` says, of the answer that it gave
 
-pub ended-as : (or : Bool) (a b : ℕ) {r r′ : Seen} → r ≡ r′ → Ended or a b r → Ended or a b r′
-ended-as or a b e k = subst (Ended or a b) e k
+pub ended-as : (or : Bool) (a b : ℕ) {r r′ : Seen} → r ≡ r′ → EndsPromise or a b r → EndsPromise or a b r′
+ended-as or a b e k = subst (EndsPromise or a b) e k

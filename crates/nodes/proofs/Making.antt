@@ -11,7 +11,7 @@ use Rattle.trees.specs.Tree.{Tree, br, mk}
 use Rattle.nodes.specs.Packing.{packed}
 use Rattle.nodes.specs.Codes.{Taken, Stands, Fair, home, Reach, Table, Grows}
 use Rattle.nodes.specs.Promise.{Fresh, Built, Short, Makeable}
-use Rattle.nodes.specs.Work.{Passed}
+use Rattle.nodes.specs.Work.{Skipped}
 use Rattle.nodes.proofs.Packings.{packed-variable, packed-low, packed-high}
 use Rattle.nodes.proofs.Slots.{taken-lt, taken-set, set-grows, grows-reach, grows-same}
 use Rattle.nodes.proofs.Standing.{stands-grows, held-grows, stands-one, stands-code, stands-small, node-stands, node-word, node-taken}
@@ -112,7 +112,7 @@ module _ (ws : List ℕ) (v lo hi : ℕ) (M : Makeable ws v lo hi) where
           stands = q;
         })
 
-    pub make-full : (w : ℕ) → w ≡ packed v lo hi → Passed ws w 0 (length ws) → (l h : Tree) → Stands ws lo l → Stands ws hi h → Short ws ws (mk v l h)
+    pub make-full : (w : ℕ) → w ≡ packed v lo hi → Skipped ws w 0 (length ws) → (l h : Tree) → Stands ws lo l → Stands ws hi h → Short ws ws (mk v l h)
     make-full w e p l h sl sh =
         let is : mk v l h ≡ br v l h = apart l h sl sh in
         rw is

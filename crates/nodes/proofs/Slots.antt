@@ -8,7 +8,7 @@ use native.Mathlib.Decide.{decLt, ℕ-discrete}
 use lib.ListN.{length, getD, set, length-set, List·getD-eq-default}
 use lib.Seq.{getD-set-other}
 use Rattle.nodes.specs.Codes.{Taken, Filled, Reach, ahead, around, Reaches, home, Grows}
-use Rattle.nodes.specs.Work.{Passed}
+use Rattle.nodes.specs.Work.{Skipped}
 
 -- ---- slots in use
 
@@ -32,10 +32,10 @@ taken-lt ws s t = ⊎-elim (λ l. l) (λ g. absurd (t (List·getD-eq-default ws 
 
 -- ---- what a search has passed
 
-pub passed-none : (ws : List ℕ) (w a : ℕ) → Passed ws w a a
+pub passed-none : (ws : List ℕ) (w a : ℕ) → Skipped ws w a a
 passed-none ws w a = record { filled = λ j p q e. omega arith; absent = λ j p q e. omega arith }
 
-pub passed-more : (ws : List ℕ) (w a s : ℕ) → Passed ws w a s → Taken ws s → getD ws s 0 ≢ w → Passed ws w a (s + 1)
+pub passed-more : (ws : List ℕ) (w a s : ℕ) → Skipped ws w a s → Taken ws s → getD ws s 0 ≢ w → Skipped ws w a (s + 1)
 passed-more ws w a s p t d =
     record {
       filled = λ j h q. ⊎-elim (λ e. subst (Taken ws) (sym e) t) (λ n. p .filled j h (omega arith)) (same-or j s);
@@ -43,7 +43,7 @@ passed-more ws w a s p t d =
     }
 
 -- two stretches that meet cover all
-pub passed-all : (ws : List ℕ) (w h : ℕ) → Passed ws w h (length ws) → Passed ws w 0 h → Passed ws w 0 (length ws)
+pub passed-all : (ws : List ℕ) (w h : ℕ) → Skipped ws w h (length ws) → Skipped ws w 0 h → Skipped ws w 0 (length ws)
 passed-all ws w h p q =
     record {
       filled = λ j a b. ⊎-elim (λ l. q .filled j a l) (λ g. p .filled j g b) (lt-or-le j h);
@@ -58,14 +58,14 @@ module _ (ws : List ℕ) (w e : ℕ) (nz : w ≢ 0) (r : Reaches ws) (z : getD w
   elsewhere : (u : ℕ) → getD ws u 0 ≡ w → u ≢ e
   elsewhere u q k = there u q (ap (λ (i : ℕ). getD ws i 0) k ∙ z)
 
-  pub absent-ahead : home w (length ws) ≤ e → e < length ws → Passed ws w (home w (length ws)) e → (u : ℕ) → getD ws u 0 ≢ w
+  pub absent-ahead : home w (length ws) ≤ e → e < length ws → Skipped ws w (home w (length ws)) e → (u : ℕ) → getD ws u 0 ≢ w
   absent-ahead he en p u q = go (rw q at (r u (there u q)))
     where
       go : Reach ws (home w (length ws)) u → ⊥
       go (ahead hu f) = ⊎-elim (λ l. p .absent u hu l q) (λ g. f e he (omega (arith, elsewhere u q)) z) (lt-or-le u e)
       go (around f g) = f e he en z
 
-  pub absent-around : e < home w (length ws) → Passed ws w (home w (length ws)) (length ws) → Passed ws w 0 e → (u : ℕ) → getD ws u 0 ≢ w
+  pub absent-around : e < home w (length ws) → Skipped ws w (home w (length ws)) (length ws) → Skipped ws w 0 e → (u : ℕ) → getD ws u 0 ≢ w
   absent-around eh p p₀ u q =
       ⊎-elim (λ l. go l (rw q at (r u (there u q)))) (λ g. p .absent u g (taken-lt ws u (there u q)) q) (lt-or-le u (home w (length ws)))
     where

@@ -17,19 +17,19 @@ use Rattle.nodes.specs.declared.joins.Parts.{Parts}
 -- ---- searching for a word
 
 -- the slots from a up to b are in use, and none of them holds w
-pub record Passed (ws : List ℕ) (w a b : ℕ) : Type 0 where
+pub record Skipped (ws : List ℕ) (w a b : ℕ) : Type 0 where
   pub filled : Filled ws a b
   pub absent : (j : ℕ) → a ≤ j → j < b → getD ws j 0 ≢ w
 
 abbrev pub Scanned : List ℕ → ℕ → ℕ → ℕ → Spot → Type 0
 Scanned ws w a b (Here s) = (a ≤ s) × (s < b) × (getD ws s 0 ≡ w)
-Scanned ws w a b (Empty s) = (a ≤ s) × (s < b) × (getD ws s 0 ≡ 0) × Passed ws w a s
-Scanned ws w a b Gone = Passed ws w a b
+Scanned ws w a b (Empty s) = (a ≤ s) × (s < b) × (getD ws s 0 ≡ 0) × Skipped ws w a s
+Scanned ws w a b Gone = Skipped ws w a b
 
 abbrev pub Probed : List ℕ → ℕ → Spot → Type 0
 Probed ws w (Here s) = (s < length ws) × (getD ws s 0 ≡ w)
 Probed ws w (Empty s) = (s < length ws) × (getD ws s 0 ≡ 0) × Reach ws (home w (length ws)) s × ((u : ℕ) → getD ws u 0 ≢ w)
-Probed ws w Gone = Passed ws w 0 (length ws)
+Probed ws w Gone = Skipped ws w 0 (length ws)
 
 -- ---- joins
 
@@ -38,9 +38,9 @@ abbrev pub remaining : List ℕ → ℕ → ℕ → ℕ
 remaining ws a b = variables - min (level ws a) (level ws b)
 
 -- an answer is right in every room in order
-abbrev pub Ended : Bool → ℕ → ℕ → Seen → Type 0
-Ended or a b (Answer c) = (ws : List ℕ) (s t : Tree) → Table ws → Stands ws a s → Stands ws b t → Stands ws (c .0) (joinT or s t)
-Ended or a b Unknown = (2 ≤ a) × (2 ≤ b)
+abbrev pub EndsPromise : Bool → ℕ → ℕ → Seen → Type 0
+EndsPromise or a b (Answer c) = (ws : List ℕ) (s t : Tree) → Table ws → Stands ws a s → Stands ws b t → Stands ws (c .0) (joinT or s t)
+EndsPromise or a b Unknown = (2 ≤ a) × (2 ≤ b)
 
 abbrev pub Recalled : List ℕ → Bool → ℕ → ℕ → Seen → Type 0
 Recalled ms or a b (Answer c) = (i : ℕ) × (getD ms i 0 ≡ noted or a b (c .0)) × (c .0 < 2 ^ 17)

@@ -5,7 +5,7 @@ ghost use lib.ListN.{length};
 ghost use Rattle.masks.specs.Sets.{pick};
 ghost use Rattle.nodes.specs.Codes.{Held, Table};
 ghost use Rattle.nodes.specs.Promise.{Joinable, Joined};
-ghost use Rattle.nodes.specs.Work.{Ended, Known, Splits};
+ghost use Rattle.nodes.specs.Work.{EndsPromise, Known, Splits};
 use super::Made;
 use super::Node;
 use super::make;
@@ -74,7 +74,7 @@ fn unit(or: bool) -> Node
 
 // The join where one code is a constant or both are the same.
 pub fn ends(or: bool, a: Node, b: Node) -> Seen
-    ensures { λ r. ⌜ Ended or (a .0) (b .0) r ⌝ }
+    ensures { λ r. ⌜ EndsPromise or (a .0) (b .0) r ⌝ }
 {
     let same = unit(or);
     if a.0 == same.0 {

@@ -12,9 +12,9 @@ use lib.ListN.{length, getD}
 use Rattle.masks.specs.Sets.{bit, put, number, weight}
 use Rattle.masks.specs.declared.Mask.{Mask}
 use Rattle.masks.proofs.Weights.{weight-new, weight-most}
+use Rattle.graphs.specs.Graph.{costOf}
 use Rattle.trees.specs.Best.{asLight, held}
-use Rattle.picker.specs.Promise.{costOf}
-use Rattle.picker.specs.Work.{setOf, Priced, Lacking, LighterPromise}
+use Rattle.picker.specs.Work.{setOf, Priced, Lacks, LighterPromise}
 use Rattle.picker.specs.declared.best.Best.{Best}
 use Rattle.picker.specs.declared.best.Best.the-variants.{Set, Nothing}
 
@@ -53,11 +53,11 @@ module _ {a b : Best} (k j : ℕ) (S R : Mask) (e : a ≡ Set k S) (f : b ≡ Se
 
 -- ---- one flip-flop more
 
-pub held-one : (c : ℕ → ℕ) (n v : ℕ) {best : Best} (k : ℕ) (S S′ : Mask) → best ≡ Set k S → v < n → Priced c n best → Lacking v best
+pub held-one : (c : ℕ → ℕ) (n v : ℕ) {best : Best} (k : ℕ) (S S′ : Mask) → best ≡ Set k S → v < n → Priced c n best → Lacks v best
     → number S′ ≡ put (number S) v → (some (number S′) ≡ held v (setOf best)) × (k + c v ≡ weight c n (number S′))
 held-one c n v {best} k S S′ e l p q f =
     let p′ : k ≡ weight c n (number S) = subst (Priced c n) e p in
-    let q′ : bit (number S) v ≡ false = subst (Lacking v) e q in
+    let q′ : bit (number S) v ≡ false = subst (Lacks v) e q in
     (rw (e, f), ap (λ x. x + c v) p′ ∙ sym (weight-new c n (number S) v l q′) ∙ ap (weight c n) (sym f))
 
 -- ---- costs

@@ -12,7 +12,7 @@ use Rattle.masks.proofs.Bits.{or-assoc}
 use Rattle.masks.specs.Sets.{bit, number}
 use Rattle.masks.specs.declared.Mask.{Mask}
 use Rattle.masks.specs.declared.Vertex.{Vertex}
-use Rattle.graphs.specs.Graph.{edge, Of}
+use Rattle.graphs.specs.Graph.{edge, Of, costOf}
 use Rattle.graphs.specs.Light.{Lightest}
 use Rattle.graphs.specs.Components.{Component, Lowest, inside}
 use Rattle.graphs.specs.Work.{Sound, Around, NextComponent}
@@ -23,8 +23,7 @@ use Rattle.graphs.proofs.Components.{EdgesBelow, componentsOf, lightest-parts}
 use Rattle.graphs.proofs.InOrder.{Walking, walking-first, walking-part, walking-more, walking-all, met-more, sound-components, sound-below}
 use Rattle.cycles.specs.Needs.{Fit}
 use Rattle.cycles.proofs.Fits.{fit-more, excess-after}
-use Rattle.picker.specs.Promise.{costOf}
-use Rattle.picker.specs.Work.{PartRight, PartTooLarge, PartPromise, GraphRight, GraphPromise}
+use Rattle.picker.specs.Work.{SetRight, SetTooLarge, SetPromise, GraphRight, GraphPromise}
 use Rattle.picker.specs.declared.components.Found.{Found}
 use Rattle.picker.specs.declared.components.Found.the-variants as sets
 use Rattle.picker.proofs.Picks.{bestOf, best-lightest, has-edge}
@@ -81,10 +80,10 @@ module _ (rows costs : List ℕ) (capacity : ℕ) (sound : Sound rows) where
       rest w x = walking-more (s .walking) l (next-part .0) (next-part .1) x
 
       -- fits, as the answer of the case says
-      pub swept-more : {r : Found} (w room k : ℕ) (R S′ : Mask) (m : ℕ) → room ≡ capacity → r ≡ sets.Set R k → PartPromise rows costs C room r
+      pub swept-more : {r : Found} (w room k : ℕ) (R S′ : Mask) (m : ℕ) → room ≡ capacity → r ≡ sets.Set R k → SetPromise rows costs C room r
           → NextComponent E (length rows) (v + 1) w → number S′ ≡ bitOr S (number R) → m ≡ max need k → Swept rows costs capacity w (number S′) m
       swept-more w room k R S′ m z d h x e q =
-          let p : PartRight rows costs C capacity (number R) k = subst₂ (PartPromise rows costs C) z d h in
+          let p : SetRight rows costs C capacity (number R) k = subst₂ (SetPromise rows costs C) z d h in
           let same : number R ≡ f C = lightest-unique (p .lightest) (best-lightest low (next-part .0) (costOf costs)) in
           record {
             done = s .done ++ (C ∷ []);
@@ -95,10 +94,10 @@ module _ (rows costs : List ℕ) (capacity : ℕ) (sound : Sound rows) where
           }
 
       -- does not fit
-      pub swept-over : (r : Found) (room : ℕ) (place : Vertex) → room ≡ capacity → r ≡ sets.TooLarge place → PartPromise rows costs C room r
+      pub swept-over : (r : Found) (room : ℕ) (place : Vertex) → room ≡ capacity → r ≡ sets.TooLarge place → SetPromise rows costs C room r
           → GraphPromise rows costs capacity r
       swept-over r room place z d h =
-          let p : PartTooLarge rows C capacity (place .0) = subst₂ (PartPromise rows costs C) z d h in
+          let p : SetTooLarge rows C capacity (place .0) = subst₂ (SetPromise rows costs C) z d h in
           subst (GraphPromise rows costs capacity) (sym d)
           (record {
             parts = s .done ++ s .coming;

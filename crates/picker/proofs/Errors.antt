@@ -12,7 +12,7 @@ use lib.Dec.{T}
 use lib.ListN.{length}
 use Rattle.masks.specs.Sets.{weight}
 use Rattle.masks.proofs.Bits.{bit-zero}
-use Rattle.graphs.specs.Graph.{edge, Loop}
+use Rattle.graphs.specs.Graph.{edge, Loop, costOf}
 use Rattle.graphs.specs.Light.{left, Meets, Lightest}
 use Rattle.graphs.specs.Components.{every}
 use Rattle.graphs.specs.Refusals.{first, checks}
@@ -26,7 +26,7 @@ use Rattle.cycles.specs.Search.{backOf}
 use Rattle.cycles.proofs.Each.{each-ones}
 use Rattle.cycles.proofs.Models.{cycleAfter}
 use Rattle.cycles.proofs.Blocks.{blockA}
-use Rattle.picker.specs.Promise.{costOf, leftRows, Right}
+use Rattle.picker.specs.Promise.{leftRows, Right}
 use Rattle.picker.proofs.Picks.{reduced, reduced-fits, best-pick}
 use Rattle.picker.proofs.Model.{chosen}
 use Rattle.picker.proofs.Computing.{computing}

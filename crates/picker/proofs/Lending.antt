@@ -4,13 +4,13 @@ use mathlib.Core.List.{List, _++_}
 use Prim.Native.Nat.{ℕ}
 use lib.ListN.{length, take, drop, replicate}
 use Rattle.graphs.specs.Refusals.{first, checks, checkRefusal}
+use Rattle.graphs.specs.Work.{Passes}
 use Rattle.graphs.specs.declared.Refusal.{Refusal}
 use Rattle.graphs.specs.declared.Checked.{Checked}
 use Rattle.graphs.specs.declared.Checked.the-variants.{Passed, Refused}
 use Rattle.nodes.specs.Rooms.{capacity, emptied, zeroed}
 use Rattle.nodes.proofs.Clearing.{front-length, lent-emptied}
 use Rattle.picker.specs.Promise.{PickAnswer, PickCases, PickPromise}
-use Rattle.picker.specs.Work.{Passes}
 use Rattle.picker.specs.declared.Picked.{Picked}
 use Rattle.picker.specs.declared.Picked.the-variants as answers
 

@@ -7,7 +7,7 @@ use Prim.Native.Nat.{ℕ}
 use lib.Bits.{bitOr}
 use lib.ListN.{length}
 use Rattle.masks.specs.Sets.{weight, number}
-use Rattle.graphs.specs.Graph.{edge}
+use Rattle.graphs.specs.Graph.{edge, costOf}
 use Rattle.graphs.specs.Light.{Lightest}
 use Rattle.graphs.specs.Components.{Components}
 use Rattle.graphs.specs.Refusals.{first, checks}
@@ -21,7 +21,7 @@ use Rattle.masks.proofs.Numbers.{maskOf}
 use Rattle.nodes.specs.Rooms.{capacity, emptied, zeroed}
 use Rattle.cycles.proofs.Fits.{Fitting, fits, exceeds, fitting, Fits, fitting-is}
 use Rattle.cycles.proofs.Asks.{after}
-use Rattle.picker.specs.Promise.{costOf, leftRows, PickAnswer, PickCases, PickPromise}
+use Rattle.picker.specs.Promise.{leftRows, PickAnswer, PickCases, PickPromise}
 use Rattle.picker.specs.declared.Picked.{Picked}
 use Rattle.picker.specs.declared.Picked.the-variants.{Set, Refused}
 use Rattle.picker.proofs.Picks.{bestOf, reduced, reduced-fits, reduced-edges, best-pick}

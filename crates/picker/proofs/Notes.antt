@@ -17,7 +17,7 @@ use Rattle.graphs.proofs.Lists.{all-alike}
 use Rattle.trees.specs.Tree.{Tree, off}
 use Rattle.nodes.specs.Codes.{Stands, is-off, is-on, is-br}
 use Rattle.nodes.specs.Rooms.{zeroed}
-use Rattle.picker.specs.Work.{Told, noted, codeIn, costIn, Weighed, Memo, Small, Recalled, Remembered}
+use Rattle.picker.specs.Work.{Told, codeAndCost, codeIn, costIn, Weighed, BestMemo, Small, Recalled, Remembered}
 use Rattle.picker.specs.declared.best.Best.{Best}
 use Rattle.picker.specs.declared.best.Best.the-variants.{Set}
 
@@ -31,12 +31,12 @@ scaled-lt x p l k = omega (arith, mul-lt-mul-of-pos-right {m = x} {n = 2 ^ 32} {
 
 -- ---- a word
 
-pub code-noted : (code k : ℕ) → k < 2 ^ 40 → codeIn (noted code k) ≡ code
-unfolding codeIn noted
+pub code-noted : (code k : ℕ) → k < 2 ^ 40 → codeIn (codeAndCost code k) ≡ code
+unfolding codeIn codeAndCost
 code-noted code k l = omega arith
 
-pub cost-noted : (code k : ℕ) → k < 2 ^ 40 → costIn (noted code k) ≡ k
-unfolding costIn noted
+pub cost-noted : (code k : ℕ) → k < 2 ^ 40 → costIn (codeAndCost code k) ≡ k
+unfolding costIn codeAndCost
 cost-noted code k l = omega arith
 
 -- ---- a zeroed room
@@ -46,7 +46,7 @@ stands-zero e (is-off z) = refl
 stands-zero e (is-on z) = absurd (omega arith)
 stands-zero e (is-br two k f l h) = absurd (omega arith)
 
-pub memo-none : (c : ℕ → ℕ) (n : ℕ) (ws old ms : List ℕ) → ms ≡ zeroed old → Memo c n ws ms
+pub memo-none : (c : ℕ → ℕ) (n : ℕ) (ws old ms : List ℕ) → ms ≡ zeroed old → BestMemo c n ws ms
 unfolding codeIn costIn
 memo-none c n ws old ms e i t s =
     let at : (j : ℕ) → getD ms j 0 ≡ 0 = λ j. ap (λ xs. getD xs j 0) e ∙ all-alike 0 (length old) j in
@@ -63,11 +63,11 @@ recalled ms code i k S e f g c n ws m t s =
 -- ---- writing
 
 remembered : (ms ms′ : List ℕ) (code i k : ℕ) (S : Mask) → 2 * i + 1 < length ms → k < 2 ^ 40
-    → ms′ ≡ set (set ms (2 * i) (noted code k)) (2 * i + 1) (number S) → Remembered ms ms′ code (Set k S)
+    → ms′ ≡ set (set ms (2 * i) (codeAndCost code k)) (2 * i + 1) (number S) → Remembered ms ms′ code (Set k S)
 remembered ms ms′ code i k S l b e c n ws m told j t s = go (ℕ-discrete j i)
   where
     once : List ℕ
-    once = set ms (2 * i) (noted code k)
+    once = set ms (2 * i) (codeAndCost code k)
 
     at : (x : ℕ) → getD ms′ x 0 ≡ getD (set once (2 * i + 1) (number S)) x 0
     at x = ap (λ xs. getD xs x 0) e
@@ -75,22 +75,22 @@ remembered ms ms′ code i k S l b e c n ws m told j t s = go (ℕ-discrete j i)
     go : Dec (j ≡ i) → Weighed c n t (costIn (getD ms′ (2 * j) 0)) (getD ms′ (2 * j + 1) 0)
     go (yes q) =
         let q′ : j ≡ i = q in
-        let first : getD ms′ (2 * j) 0 ≡ noted code k =
+        let first : getD ms′ (2 * j) 0 ≡ codeAndCost code k =
         at (2 * j) ∙ getD-set-other once (2 * i + 1) (2 * j) (number S) 0 (omega arith) ∙ ap (λ x. getD once (2 * x) 0) q
-        ∙ getD-set-same ms (2 * i) (noted code k) 0 (omega arith) in
+        ∙ getD-set-same ms (2 * i) (codeAndCost code k) 0 (omega arith) in
         let second : getD ms′ (2 * j + 1) 0 ≡ number S =
         at (2 * j + 1) ∙ ap (λ x. getD (set once (2 * i + 1) (number S)) (2 * x + 1) 0) q
-        ∙ getD-set-same once (2 * i + 1) (number S) 0 (omega (arith, length-set ms (2 * i) (noted code k))) in
+        ∙ getD-set-same once (2 * i + 1) (number S) 0 (omega (arith, length-set ms (2 * i) (codeAndCost code k))) in
         let r : Told c n t (Set k S) = told t (subst (λ x. Stands ws x t) (ap codeIn first ∙ code-noted code k b) s) in
         rw (first, second, cost-noted code k b) (record { set = sym (r .set); cost = r .priced })
     go (no q) =
         let q′ : j ≢ i = q in
         let first : getD ms′ (2 * j) 0 ≡ getD ms (2 * j) 0 =
         at (2 * j) ∙ getD-set-other once (2 * i + 1) (2 * j) (number S) 0 (omega arith)
-        ∙ getD-set-other ms (2 * i) (2 * j) (noted code k) 0 (omega arith) in
+        ∙ getD-set-other ms (2 * i) (2 * j) (codeAndCost code k) 0 (omega arith) in
         let second : getD ms′ (2 * j + 1) 0 ≡ getD ms (2 * j + 1) 0 =
         at (2 * j + 1) ∙ getD-set-other once (2 * i + 1) (2 * j + 1) (number S) 0 (omega arith)
-        ∙ getD-set-other ms (2 * i) (2 * j + 1) (noted code k) 0 (omega arith) in
+        ∙ getD-set-other ms (2 * i) (2 * j + 1) (codeAndCost code k) 0 (omega arith) in
         rw (first, second) (m j t (subst (λ x. Stands ws (codeIn x) t) first s))
 
 -- an answer that is known to hold a set
@@ -98,6 +98,6 @@ pub small-one : {r : Best} {k : ℕ} {S : Mask} → r ≡ Set k S → Small r �
 small-one e h = subst Small e h
 
 pub remembered-one : {r : Best} {k : ℕ} {S : Mask} → r ≡ Set k S → (ms ms′ : List ℕ) (code i : ℕ) → 2 * i + 1 < length ms → Small r
-    → ms′ ≡ set (set ms (2 * i) (noted code k)) (2 * i + 1) (number S) → Remembered ms ms′ code r
+    → ms′ ≡ set (set ms (2 * i) (codeAndCost code k)) (2 * i + 1) (number S) → Remembered ms ms′ code r
 remembered-one {r} {k} {S} e ms ms′ code i l h f =
     subst (Remembered ms ms′ code) (sym e) (remembered ms ms′ code i k S l (small-one e h) f)

@@ -13,7 +13,7 @@ use Rattle.masks.specs.Sets.{bit, those, lowest, number}
 use Rattle.masks.specs.declared.Mask.{Mask}
 use Rattle.masks.proofs.Those.{those-in}
 use Rattle.masks.proofs.Nexts.{onward, Next, next-is, next-least}
-use Rattle.graphs.specs.Graph.{edge}
+use Rattle.graphs.specs.Graph.{edge, costOf}
 use Rattle.graphs.specs.Light.{left}
 use Rattle.graphs.specs.Components.{Component, Lowest}
 use Rattle.graphs.proofs.Walks.{source-lt}
@@ -28,13 +28,12 @@ use Rattle.nodes.proofs.Counting.{used-within}
 use Rattle.cycles.specs.Search.{backOf}
 use Rattle.cycles.specs.Passes.{cycle}
 use Rattle.cycles.specs.Work.{BuiltAt, TooSmall, ComponentPromise}
-use Rattle.cycles.specs.declared.making.Built.{Built}
-use Rattle.cycles.specs.declared.making.Built.the-variants.{Within, Exceeds}
+use Rattle.cycles.specs.declared.making.Cycle.{Cycle}
+use Rattle.cycles.specs.declared.making.Cycle.the-variants.{Within, Exceeds}
 use Rattle.cycles.proofs.Models.{cycleT, cycle-is, cycle-fine}
 use Rattle.cycles.proofs.Parts.{part-built}
 use Rattle.cycles.proofs.Picks.{component-best-some}
-use Rattle.picker.specs.Promise.{costOf}
-use Rattle.picker.specs.Work.{Ready, PartRight, PartTooLarge, Standing, LightestPromise}
+use Rattle.picker.specs.Work.{Pickable, SetRight, SetTooLarge, Standing, LightestPromise}
 use Rattle.picker.proofs.Picks.{bestOf, best-lightest}
 
 -- ---- a tree with the values of the cycle function has the best set of the component's
@@ -77,11 +76,11 @@ first-lowest {E} {n} {C} low few comp v e = record { holds = x .found inner .1; 
 
 -- ---- one component of a block
 
-module _ {rows costs ws ms : List ℕ} {C : ℕ} (ready : Ready rows costs ws ms) (comp : Component (edge rows) C) where
+module _ {rows costs ws ms : List ℕ} {C : ℕ} (ready : Pickable rows costs ws ms) (comp : Component (edge rows) C) where
   low : EdgesBelow (edge rows) (length rows)
   low = sound-below rows (ready .sound)
 
-  module _ {built : Built} (ws₁ : List ℕ) (same : length ws₁ ≡ length ws) (p : ComponentPromise (edge rows) (length rows) C ws₁ built) where
+  module _ {built : Cycle} (ws₁ : List ℕ) (same : length ws₁ ≡ length ws) (p : ComponentPromise (edge rows) (length rows) C ws₁ built) where
     module _ (k : ℕ) (f : Node) (m : built ≡ Within k f) where
       done : BuiltAt (edge rows) (length rows) C (take k ws₁) (f .0)
       done = part-built (edge rows) (length rows) C ws₁ built p k f m .1
@@ -97,9 +96,9 @@ module _ {rows costs ws ms : List ℕ} {C : ℕ} (ready : Ready rows costs ws ms
             under = rw (ready .even) (done .under);
           }
 
-      pub part-right : (S : Mask) (need : ℕ) → LightestPromise (take k ws₁) costs (f .0) (number S) → need ≡ used (take k ws₁)
-          → PartRight rows costs C (length ws) (number S) need
-      part-right S need h q =
+      pub set-right : (S : Mask) (need : ℕ) → LightestPromise (take k ws₁) costs (f .0) (number S) → need ≡ used (take k ws₁)
+          → SetRight rows costs C (length ws) (number S) need
+      set-right S need h q =
           let g : best (costOf costs) (length costs) (done .tree) ≡ some (bestOf (costOf costs) (edge rows) (length rows) C) =
           rw (ready .even) (best-built low comp (done .tree) (done .ordered) (done .under) (done .is) (costOf costs)) in
           record {
@@ -108,7 +107,7 @@ module _ {rows costs ws ms : List ℕ} {C : ℕ} (ready : Ready rows costs ws ms
             fits = omega (arith, used-within (take k ws₁), length-take k ws₁);
           }
 
-    pub part-too-large : (place : ℕ) → built ≡ Exceeds → place ≡ lowest 64 (onward C 0) → PartTooLarge rows C (length ws) place
-    part-too-large place m q =
+    pub set-too-large : (place : ℕ) → built ≡ Exceeds → place ≡ lowest 64 (onward C 0) → SetTooLarge rows C (length ws) place
+    set-too-large place m q =
         let d : TooSmall (edge rows) (length rows) C (length ws₁) = subst (ComponentPromise (edge rows) (length rows) C ws₁) m p in
         record { need = d .0; is = d .1; exceeds = omega (arith, d .2); lowest = first-lowest low (ready .sound .few) comp place q }

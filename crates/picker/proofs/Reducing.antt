@@ -11,8 +11,9 @@ use lib.Seq.{take-at, length-take-le}
 use Rattle.masks.specs.Sets.{number, weight}
 use Rattle.masks.specs.declared.Mask.{Mask}
 use Rattle.masks.specs.declared.Vertex.{Vertex}
-use Rattle.graphs.specs.Graph.{edge}
+use Rattle.graphs.specs.Graph.{edge, costOf}
 use Rattle.graphs.specs.Light.{Lightest}
+use Rattle.graphs.specs.Work.{Passes}
 use Rattle.graphs.proofs.Tables.{Checks, checks-passed}
 use Rattle.reduction.specs.Rules.{State, start, run}
 use Rattle.reduction.specs.Promise.{outcome, Returned, ReducePromise}
@@ -20,8 +21,8 @@ use Rattle.reduction.specs.declared.Reduced.{Reduced}
 use Rattle.reduction.proofs.Runs.{run-more}
 use Rattle.reduction.proofs.Sound.{full-lightest}
 use Rattle.cycles.specs.Needs.{Answered, TooLarge}
-use Rattle.picker.specs.Promise.{costOf, leftRows, Right}
-use Rattle.picker.specs.Work.{Passes, Ready, GraphRight, GraphPromise}
+use Rattle.picker.specs.Promise.{leftRows, Right}
+use Rattle.picker.specs.Work.{Pickable, GraphRight, GraphPromise}
 use Rattle.picker.specs.declared.components.Found.{Found}
 use Rattle.picker.specs.declared.components.Found.the-variants as sets
 use Rattle.picker.proofs.Picks.{reduced, sane, reduced-fits, reduced-live}
@@ -59,7 +60,7 @@ module _ {rows costs : List ℕ} {answer : Reduced} (r : Whole rows costs answer
   pub rows-part : length rows ≡ length (take (length rows) (answer .rows))
   rows-part = sym (length-take-le (length rows) (answer .rows) rows-long)
 
-  pub ready-left : (ws ms : List ℕ) → length ws ≤ 65536 → 2 ≤ length ms → Ready (take (length rows) (answer .rows)) costs ws ms
+  pub ready-left : (ws ms : List ℕ) → length ws ≤ 65536 → 2 ≤ length ms → Pickable (take (length rows) (answer .rows)) costs ws ms
   ready-left ws ms l k =
       rw rows-left
       (record {

@@ -8,7 +8,7 @@ use lib.ListN.{length, getD}
 use Rattle.masks.specs.Sets.{bit, lowest, weight}
 use Rattle.masks.proofs.Weights.{weight-member, weight-skip, weight-most}
 use Rattle.masks.proofs.Nexts.{onward, Next, next-is, next-after}
-use Rattle.picker.specs.Promise.{costOf}
+use Rattle.graphs.specs.Graph.{costOf}
 
 weight-zero : (c : ℕ → ℕ) (S : ℕ) → weight c 0 S ≡ 0
 unfolding weight

@@ -7,7 +7,7 @@ use Prim.Native.Nat.{ℕ}
 use lib.ListN.{length}
 use Rattle.masks.specs.Sets.{number, weight}
 use Rattle.masks.specs.declared.Mask.{Mask}
-use Rattle.graphs.specs.Graph.{edge}
+use Rattle.graphs.specs.Graph.{edge, costOf}
 use Rattle.graphs.specs.Refusals.{first, checks}
 use Rattle.graphs.specs.declared.Refusal.{Refusal}
 use Rattle.graphs.proofs.Lightest.{lightest-unique}
@@ -15,7 +15,7 @@ use Rattle.graphs.proofs.Tables.{refusal-same}
 use Rattle.masks.proofs.Numbers.{number-inj}
 use Rattle.nodes.specs.Rooms.{capacity}
 use Rattle.cycles.proofs.Fits.{answered-unique, too-large-unique, answered-or-too-large}
-use Rattle.picker.specs.Promise.{costOf, leftRows, Right, PickAnswer, PickCases, PickPromise}
+use Rattle.picker.specs.Promise.{leftRows, Right, PickAnswer, PickCases, PickPromise}
 use Rattle.picker.specs.declared.Picked.{Picked}
 use Rattle.picker.specs.declared.Picked.the-variants.{Set, Refused}
 use Rattle.picker.proofs.Model.{pickModel, nodesModel, memoModel, pick-meets}

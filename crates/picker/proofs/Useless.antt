@@ -9,7 +9,7 @@ use native.Mathlib.Omega.{arith}
 use lib.ListN.{length}
 use Rattle.masks.specs.Sets.{number}
 use Rattle.masks.specs.declared.Mask.{Mask}
-use Rattle.graphs.specs.Graph.{edge}
+use Rattle.graphs.specs.Graph.{edge, costOf}
 use Rattle.graphs.specs.Refusals.{first, checks}
 use Rattle.graphs.specs.declared.Refusal.{Refusal}
 use Rattle.graphs.proofs.Components.{componentsOf}
@@ -18,7 +18,7 @@ use Rattle.masks.proofs.Numbers.{maskOf}
 use Rattle.nodes.specs.Rooms.{capacity}
 use Rattle.cycles.proofs.Fits.{fits, exceeds, fitting}
 use Rattle.cycles.proofs.Blocks.{blockA}
-use Rattle.picker.specs.Promise.{costOf, PickPromise}
+use Rattle.picker.specs.Promise.{PickPromise}
 use Rattle.picker.specs.declared.Picked.{Picked}
 use Rattle.picker.specs.declared.Picked.the-variants.{Set, Refused}
 use Rattle.picker.proofs.Model.{chosen, pickModel, nodesModel, memoModel, pick-meets}

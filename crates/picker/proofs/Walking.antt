@@ -10,6 +10,7 @@ use Rattle.masks.specs.Sets.{number}
 use Rattle.masks.specs.declared.Mask.{Mask}
 use Rattle.masks.specs.declared.Vertex.{Vertex}
 use Rattle.masks.proofs.Weights.{weight-none}
+use Rattle.graphs.specs.Graph.{costOf}
 use Rattle.trees.specs.Tree.{Tree, off, on, br, Ordered}
 use Rattle.trees.specs.Best.{Frees, Under, held, lighter, best}
 use Rattle.trees.proofs.Bests.{Answer, best-answer}
@@ -19,8 +20,7 @@ use Rattle.nodes.specs.declared.Node.{Node}
 use Rattle.nodes.specs.declared.Shape.{Shape}
 use Rattle.nodes.specs.declared.Shape.the-variants.{Off, On, Branch}
 use Rattle.nodes.proofs.Standing.{stands-one, stands-small, level-br, level-above}
-use Rattle.picker.specs.Promise.{costOf}
-use Rattle.picker.specs.Work.{setOf, Priced, Lacking, Told, LighterPromise, Memo, Small, Recalled, Remembered, Walkable, Walked}
+use Rattle.picker.specs.Work.{setOf, Priced, Lacks, Told, LighterPromise, BestMemo, Small, Recalled, Remembered, Walkable, Walked}
 use Rattle.picker.specs.declared.best.Best.{Best}
 use Rattle.picker.specs.declared.best.Best.the-variants.{Set, Nothing}
 use Rattle.picker.proofs.Choosing.{weight-small}
@@ -35,7 +35,7 @@ holds-tree w = record { tree = w .standing .tree; stands = w .standing .stands; 
 -- ---- an answer for the tree is one for whatever the code stands for
 
 module _ {ws ms costs : List ℕ} {code : ℕ} (w : Walkable ws ms costs code) where
-  walked : (ms′ : List ℕ) (r : Best) → Told (costOf costs) (length costs) (w .standing .tree) r → Memo (costOf costs) (length costs) ws ms′ → Walked ws ms′ costs code r
+  walked : (ms′ : List ℕ) (r : Best) → Told (costOf costs) (length costs) (w .standing .tree) r → BestMemo (costOf costs) (length costs) ws ms′ → Walked ws ms′ costs code r
   walked ms′ r t m = record { told = λ u s. subst (λ x. Told (costOf costs) (length costs) x r) (stands-one (w .standing .stands) s) t; memo = m }
 
   -- ---- the ends
@@ -99,7 +99,7 @@ module _ {ws ms costs : List ℕ} {code v lo hi : ℕ} (w : Walkable ws ms costs
 
   module _ {c : ℕ} (side : Side ws costs v c) where
     -- with a memo that is right
-    pub walk-side : (ms′ : List ℕ) → 2 ≤ length ms′ → Memo (costOf costs) (length costs) ws ms′ → Walkable ws ms′ costs c
+    pub walk-side : (ms′ : List ℕ) → 2 ≤ length ms′ → BestMemo (costOf costs) (length costs) ws ms′ → Walkable ws ms′ costs c
     walk-side ms′ size m =
         record {
           standing =
@@ -129,7 +129,7 @@ module _ {ws ms costs : List ℕ} {code v lo hi : ℕ} (w : Walkable ws ms costs
   -- ---- back up: x and y are the answers for the sides
 
   -- the best set of the low side lacks v
-  pub lacks : (x : Best) → Told (costOf costs) (length costs) (b .low .tree) x → Lacking v x
+  pub lacks : (x : Best) → Told (costOf costs) (length costs) (b .low .tree) x → Lacks v x
   lacks Nothing t = tt
   lacks (Set k S) t =
       let a : Answer (costOf costs) (length costs) (suc v) (Frees (b .low .tree)) (some (number S)) =
@@ -154,7 +154,7 @@ module _ {ws ms costs : List ℕ} {code v lo hi : ℕ} (w : Walkable ws ms costs
         go Nothing p = tt
         go (Set k S) p = omega (arith, weight-small costs (number S) (w .standing .few) h)
 
-    pub walked-whole : (ms₁ ms₂ : List ℕ) → Memo (costOf costs) (length costs) ws ms₁ → Remembered ms₁ ms₂ code r → Walked ws ms₂ costs code r
+    pub walked-whole : (ms₁ ms₂ : List ℕ) → BestMemo (costOf costs) (length costs) ws ms₁ → Remembered ms₁ ms₂ code r → Walked ws ms₂ costs code r
     walked-whole ms₁ ms₂ m p =
         let t : (u : Tree) → Stands ws code u → Told (costOf costs) (length costs) u r =
         λ u s. subst (λ a. Told (costOf costs) (length costs) a r) (stands-one (b .whole) s) told-whole in

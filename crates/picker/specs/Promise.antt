@@ -3,9 +3,9 @@ use mathlib.Core.Path.{_≡_}
 use mathlib.Core.List.{List}
 use mathlib.Core.Option.{Option, none, some}
 use Prim.Native.Nat.{ℕ}
-use lib.ListN.{length, getD}
+use lib.ListN.{length}
 use Rattle.masks.specs.Sets.{number, weight}
-use Rattle.graphs.specs.Graph.{edge}
+use Rattle.graphs.specs.Graph.{edge, costOf}
 use Rattle.graphs.specs.Light.{Lightest}
 use Rattle.graphs.specs.Refusals.{first, checks}
 use Rattle.graphs.specs.declared.Refusal.{Refusal}
@@ -14,10 +14,6 @@ use Rattle.nodes.specs.Rooms.{capacity, emptied, zeroed}
 use Rattle.cycles.specs.Needs.{Answered, TooLarge}
 use Rattle.picker.specs.declared.Picked.{Picked}
 use Rattle.picker.specs.declared.Picked.the-variants.{Set, Refused}
-
--- a flip-flop's cost
-abbrev pub costOf : List ℕ → ℕ → ℕ
-costOf costs v = getD costs v 0
 
 -- the rows "left by the stated reduction"
 abbrev pub leftRows : List ℕ → List ℕ → List ℕ

@@ -7,10 +7,9 @@ use Prim.Native.Nat.{ℕ, _+_, _*_, _/_, _%_, _^_, _≤_, _<_}
 use lib.Dec.{T}
 use lib.ListN.{length, getD}
 use Rattle.masks.specs.Sets.{bit, number, weight}
-use Rattle.graphs.specs.Graph.{edge}
+use Rattle.graphs.specs.Graph.{edge, costOf}
 use Rattle.graphs.specs.Light.{Lightest}
 use Rattle.graphs.specs.Components.{Lowest, inside}
-use Rattle.graphs.specs.Refusals.{first, checks}
 use Rattle.graphs.specs.Work.{Sound}
 use Rattle.trees.specs.Tree.{Tree, Ordered}
 use Rattle.trees.specs.Best.{Under, lighter, best}
@@ -18,19 +17,14 @@ use Rattle.trees.specs.Need.{Need}
 use Rattle.nodes.specs.Codes.{Stands}
 use Rattle.cycles.specs.Passes.{functions}
 use Rattle.cycles.specs.Needs.{Answered, TooLarge}
-use Rattle.picker.specs.Promise.{costOf}
 use Rattle.picker.specs.declared.best.Best.{Best}
 use Rattle.picker.specs.declared.best.Best.the-variants.{Set, Nothing}
 use Rattle.picker.specs.declared.components.Found as sets
 
 -- ---- a block
 
--- it passes the checks
-abbrev pub Passes : List ℕ → List ℕ → Type 0
-Passes rows costs = first (checks rows (length costs)) ≡ none
-
 -- rows and costs of a block, a node room that counts whole, and a memo room for one node at least
-pub record Ready (rows costs ws ms : List ℕ) : Type 0 where
+pub record Pickable (rows costs ws ms : List ℕ) : Type 0 where
   pub sound : Sound rows
   pub even : length costs ≡ length rows
   pub small : length ws ≤ 65536
@@ -39,20 +33,20 @@ pub record Ready (rows costs ws ms : List ℕ) : Type 0 where
 -- ---- the lightest set by components
 
 -- of the component C: the lightest set that meets every loop of it, and its need; or its lowest flip-flop where the need exceeds the capacity
-pub record PartRight (rows costs : List ℕ) (C capacity set need : ℕ) : Type 0 where
+pub record SetRight (rows costs : List ℕ) (C capacity set need : ℕ) : Type 0 where
   pub lightest : Lightest (costOf costs) (length rows) (λ S. (v : ℕ) → T (bit S v) → T (bit C v)) (inside (edge rows) C) set
   pub counts : Need (functions (edge rows) (length rows) C) need
   pub fits : need ≤ capacity
 
-pub record PartTooLarge (rows : List ℕ) (C capacity place : ℕ) : Type 0 where
+pub record SetTooLarge (rows : List ℕ) (C capacity place : ℕ) : Type 0 where
   pub need : ℕ
   pub is : Need (functions (edge rows) (length rows) C) need
   pub exceeds : capacity < need
   pub lowest : Lowest C place
 
-abbrev pub PartPromise : List ℕ → List ℕ → ℕ → ℕ → sets.Found → Type 0
-PartPromise rows costs C capacity (sets.the-variants.Set set need) = PartRight rows costs C capacity (number set) need
-PartPromise rows costs C capacity (sets.the-variants.TooLarge v) = PartTooLarge rows C capacity (v .0)
+abbrev pub SetPromise : List ℕ → List ℕ → ℕ → ℕ → sets.Found → Type 0
+SetPromise rows costs C capacity (sets.the-variants.Set set need) = SetRight rows costs C capacity (number set) need
+SetPromise rows costs C capacity (sets.the-variants.TooLarge v) = SetTooLarge rows C capacity (v .0)
 
 -- of a graph: the lightest set that meets every loop of it, each member of which has an edge, and the largest need; or the place where a need is too large
 pub record GraphRight (rows costs : List ℕ) (capacity set need : ℕ) : Type 0 where
@@ -77,9 +71,9 @@ Priced c n (Set k S) = k ≡ weight c n (number S)
 Priced c n Nothing = Unit {0}
 
 -- the set of an answer lacks v
-abbrev pub Lacking : ℕ → Best → Type 0
-Lacking v (Set k S) = bit (number S) v ≡ false
-Lacking v Nothing = Unit {0}
+abbrev pub Lacks : ℕ → Best → Type 0
+Lacks v (Set k S) = bit (number S) v ≡ false
+Lacks v Nothing = Unit {0}
 
 -- the answer for the tree t
 pub record Told (c : ℕ → ℕ) (n : ℕ) (t : Tree) (r : Best) : Type 0 where
@@ -93,8 +87,8 @@ LighterPromise a b r = (c : ℕ → ℕ) (n : ℕ) → Priced c n a → Priced c
 -- ---- the memo of that walk
 
 -- a word packs the code of a node and the cost of its best set, and the next word is that set
-unfoldable pub noted : ℕ → ℕ → ℕ
-noted code cost = code * 2 ^ 40 + cost
+unfoldable pub codeAndCost : ℕ → ℕ → ℕ
+codeAndCost code cost = code * 2 ^ 40 + cost
 
 unfoldable pub codeIn : ℕ → ℕ
 codeIn w = w / 2 ^ 40
@@ -108,8 +102,8 @@ pub record Weighed (c : ℕ → ℕ) (n : ℕ) (t : Tree) (k S : ℕ) : Type 0 w
   pub cost : k ≡ weight c n S
 
 -- each two words are right for what their code stands for in the room ws. (Two that are 0 are: the constant 0 has the empty set.)
-abbrev pub Memo : (ℕ → ℕ) → ℕ → List ℕ → List ℕ → Type 0
-Memo c n ws ms = (i : ℕ) (t : Tree) → Stands ws (codeIn (getD ms (2 * i) 0)) t → Weighed c n t (costIn (getD ms (2 * i) 0)) (getD ms (2 * i + 1) 0)
+abbrev pub BestMemo : (ℕ → ℕ) → ℕ → List ℕ → List ℕ → Type 0
+BestMemo c n ws ms = (i : ℕ) (t : Tree) → Stands ws (codeIn (getD ms (2 * i) 0)) t → Weighed c n t (costIn (getD ms (2 * i) 0)) (getD ms (2 * i + 1) 0)
 
 -- a cost that can be packed
 abbrev pub Small : Best → Type 0
@@ -117,11 +111,11 @@ Small (Set k S) = k < 2 ^ 40
 Small Nothing = Unit {0}
 
 abbrev pub Recalled : List ℕ → ℕ → Best → Type 0
-Recalled ms code (Set k S) = (c : ℕ → ℕ) (n : ℕ) (ws : List ℕ) → Memo c n ws ms → (t : Tree) → Stands ws code t → Told c n t (Set k S)
+Recalled ms code (Set k S) = (c : ℕ → ℕ) (n : ℕ) (ws : List ℕ) → BestMemo c n ws ms → (t : Tree) → Stands ws code t → Told c n t (Set k S)
 Recalled ms code Nothing = Unit {0}
 
 abbrev pub Remembered : List ℕ → List ℕ → ℕ → Best → Type 0
-Remembered ms ms′ code r = (c : ℕ → ℕ) (n : ℕ) (ws : List ℕ) → Memo c n ws ms → ((t : Tree) → Stands ws code t → Told c n t r) → Memo c n ws ms′
+Remembered ms ms′ code r = (c : ℕ → ℕ) (n : ℕ) (ws : List ℕ) → BestMemo c n ws ms → ((t : Tree) → Stands ws code t → Told c n t r) → BestMemo c n ws ms′
 
 -- ---- the walk
 
@@ -138,11 +132,11 @@ pub record Standing (ws costs : List ℕ) (code : ℕ) : Type 0 where
 pub record Walkable (ws ms costs : List ℕ) (code : ℕ) : Type 0 where
   pub standing : Standing ws costs code
   pub pairs : 2 ≤ length ms
-  pub memo : Memo (costOf costs) (length costs) ws ms
+  pub memo : BestMemo (costOf costs) (length costs) ws ms
 
 pub record Walked (ws ms costs : List ℕ) (code : ℕ) (r : Best) : Type 0 where
   pub told : (t : Tree) → Stands ws code t → Told (costOf costs) (length costs) t r
-  pub memo : Memo (costOf costs) (length costs) ws ms
+  pub memo : BestMemo (costOf costs) (length costs) ws ms
 
 -- S is the best set of what the code stands for, if there is one
 abbrev pub LightestPromise : List ℕ → List ℕ → ℕ → ℕ → Type 0

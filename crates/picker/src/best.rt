@@ -3,9 +3,9 @@ ghost use mathlib.Core.Path.{_≡_};
 ghost use Prim.Native.Nat.{_≤_, _<_};
 ghost use lib.ListN.{length};
 ghost use Rattle.masks.specs.Sets.{number};
+ghost use Rattle.graphs.specs.Graph.{costOf};
 ghost use Rattle.trees.specs.Best as trees;
-ghost use Rattle.picker.specs.Promise.{costOf};
-ghost use Rattle.picker.specs.Work.{setOf, Priced, Lacking, Standing, Walkable, Walked, LightestPromise, LighterPromise};
+ghost use Rattle.picker.specs.Work.{setOf, Priced, Lacks, Standing, Walkable, Walked, LightestPromise, LighterPromise};
 use super::memos::recall;
 use super::memos::remember;
 use masks::Mask;
@@ -67,7 +67,7 @@ fn best_of(nodes: &[u64], memo: &mut [u64], node: Node, costs: &[u32]) -> Best
 // The set with v too.
 fn held(best: Best, v: Vertex, costs: &[u32]) -> Best
     requires { ⌜ (v .0 < length (now costs)) × (length (now costs) ≤ 64) ⌝ }
-    requires { ⌜ Priced (costOf (now costs)) (length (now costs)) best × Lacking (v .0) best ⌝ }
+    requires { ⌜ Priced (costOf (now costs)) (length (now costs)) best × Lacks (v .0) best ⌝ }
     ensures { λ r. ⌜ (setOf r ≡ trees.held (v .0) (setOf best)) × Priced (costOf (now (costs .entry))) (length (now (costs .entry))) r ⌝ }
 {
     match best {

@@ -3,9 +3,9 @@ ghost use lib.ListN.{length};
 ghost use Rattle.masks.specs.Sets.{number};
 ghost use Rattle.graphs.specs.Graph.{edge};
 ghost use Rattle.graphs.specs.Components.{Component};
-ghost use Rattle.picker.specs.Work.{Ready, PartPromise, GraphPromise};
+ghost use Rattle.picker.specs.Work.{Pickable, SetPromise, GraphPromise};
 use super::best::lightest;
-use cycles::Built;
+use cycles::Cycle;
 use cycles::build_component;
 use graphs::component_around;
 use graphs::next_component;
@@ -21,7 +21,7 @@ pub enum Found {
 
 // The lightest sets of all components together.
 pub fn graph_set(rows: &[u64], costs: &[u32], nodes: &mut [u64], memo: &mut [u64]) -> Found
-    requires { ⌜ Ready (now rows) (now costs) (now nodes) (now memo) ⌝ }
+    requires { ⌜ Pickable (now rows) (now costs) (now nodes) (now memo) ⌝ }
     ensures { λ r. ⌜ GraphPromise (now (rows .entry)) (now (costs .entry)) (length (now (nodes .entry))) r ⌝ }
 {
     let n = rows.len();
@@ -57,11 +57,11 @@ fn component_set(
     nodes: &mut [u64],
     memo: &mut [u64],
 ) -> Found
-    requires { ⌜ Ready (now rows) (now costs) (now nodes) (now memo) × Component (edge (now rows)) (number members) ⌝ }
-    ensures { λ r. ⌜ PartPromise (now (rows .entry)) (now (costs .entry)) (number members) (length (now (nodes .entry))) r ⌝ }
+    requires { ⌜ Pickable (now rows) (now costs) (now nodes) (now memo) × Component (edge (now rows)) (number members) ⌝ }
+    ensures { λ r. ⌜ SetPromise (now (rows .entry)) (now (costs .entry)) (number members) (length (now (nodes .entry))) r ⌝ }
 {
     let built = build_component(rows, members, nodes, memo);
-    let Built::Within(words, function) = built else {
+    let Cycle::Within(words, function) = built else {
         return Found::TooLarge(Vertex(members.next_member(0)));
     };
     let room = &nodes[..words];

@@ -3,14 +3,13 @@
 use mathlib.Core.Path.{_≡_, refl, sym, ap, _∙_}
 use mathlib.Core.Logic.{_≢_}
 use mathlib.Core.List.{List, [], _∷_}
-use mathlib.Core.Option.{none}
 use Prim.Native.Nat.{ℕ, min}
 use native.Mathlib.Omega.{arith}
 use lib.Count.{ones}
 use lib.ListN.{length, getD}
 use Rattle.masks.specs.Sets.{bit, put, cut, those, lowest, number}
 use Rattle.graphs.specs.Graph.{plainFrom}
-use Rattle.graphs.specs.Refusals.{first, checks}
+use Rattle.graphs.specs.Work.{Passes}
 use Rattle.reduction.specs.declared.Reduced.{Reduced}
 use Rattle.reduction.specs.Rules.{start, next, run}
 use Rattle.reduction.specs.Promise.{ReducePromise}
@@ -21,10 +20,6 @@ use Rattle.reduction.proofs.Worked.{two, empty}
 -- f keeps the promise
 abbrev pub Keeps : (List ℕ → List ℕ → ℕ → Reduced) → Type 0
 Keeps f = (rows costs : List ℕ) (limit : ℕ) → ReducePromise rows costs limit (f rows costs limit)
-
--- an input that is not to be refused
-abbrev pub Passes : List ℕ → List ℕ → Type 0
-Passes rows costs = first (checks rows (length costs)) ≡ none
 
 -- 0>1, 1>0, costs 5, 5, in which two steps are made
 abbrev rows2 : List ℕ

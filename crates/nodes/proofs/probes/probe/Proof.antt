@@ -7,7 +7,7 @@ use native.Mathlib.Omega.{arith}
 use borrow.Author.Needs.{needs}
 use lib.ListN.{length}
 use Rattle.nodes.specs.Codes.{Reaches, ahead, around, home}
-use Rattle.nodes.specs.Work.{Passed, Scanned, Probed}
+use Rattle.nodes.specs.Work.{Skipped, Scanned, Probed}
 use Rattle.nodes.specs.declared.probes.Spot.{Spot}
 use Rattle.nodes.specs.declared.probes.Spot.the-variants.{Here, Empty, Gone}
 use Rattle.nodes.proofs.Slots.{absent-ahead, absent-around, passed-all}
@@ -20,13 +20,13 @@ module _ (ws : List ℕ) (w h : ℕ) (nz : w ≢ 0) (rs : Reaches ws) (at : h �
 
   ahead-empty : (s : ℕ) → Scanned ws w h (length ws) (Empty s) → Probed ws w (Empty s)
   ahead-empty s p =
-      let q : Passed ws w (home w (length ws)) s = rw at at (p .3) in
+      let q : Skipped ws w (home w (length ws)) s = rw at at (p .3) in
       (p .1, p .2, ahead (rw at at (p .0)) (q .filled), absent-ahead ws w s nz rs (p .2) (rw at at (p .0)) (p .1) q)
 
-  around-all : (r : Spot) → Passed ws w h (length ws) → Scanned ws w 0 h r → Probed ws w r
+  around-all : (r : Spot) → Skipped ws w h (length ws) → Scanned ws w 0 h r → Probed ws w r
   around-all (Here s) q p = (omega arith, p .2)
   around-all (Empty s) q p =
-      let q′ : Passed ws w (home w (length ws)) (length ws) = rw at at q in
+      let q′ : Skipped ws w (home w (length ws)) (length ws) = rw at at q in
       (omega arith, p .2, around (q′ .filled) (p .3 .filled), absent-around ws w s nz rs (p .2) (rw at at (p .1)) q′ (p .3))
   around-all Gone q p = passed-all ws w h q p
 

@@ -4,13 +4,13 @@ use native.Mathlib.Omega.{arith}
 use borrow.Author.Needs.{scaled-fits}
 use mathlib.Core.Path.{_≡_}
 use lib.ListN.{length}
-use Rattle.nodes.specs.Work.{Passed}
+use Rattle.nodes.specs.Work.{Skipped}
 use Rattle.nodes.proofs.Slots.{passed-none, passed-more}
 use Rattle.nodes.proofs.probes.scan.Statement.{statement}
 use Rattle.nodes.proofs.probes.scan.Tie as tie
 
 abbrev Inv-loop : tie.InvT-loop
-Inv-loop nodes w from to s₀ s = (from ≤ s) × (s ≤ to) × (to ≤ length nodes) × Passed nodes w from s
+Inv-loop nodes w from to s₀ s = (from ≤ s) × (s ≤ to) × (to ≤ length nodes) × Skipped nodes w from s
 
 abbrev μ-loop : tie.MeasureT-loop
 μ-loop nodes w from to s₀ s = to - s

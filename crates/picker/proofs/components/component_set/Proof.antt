@@ -1,7 +1,7 @@
 -- `component_set` meets its contract: the walk finds the lightest set where the cycle function stands, and the words in use there are the need. Assumes nothing.
 use native.Mathlib.Omega.{arith}
 use Rattle.cycles.proofs.Parts.{part-built, part-words}
-use Rattle.picker.proofs.OneComponent.{standing, part-right, part-too-large}
+use Rattle.picker.proofs.OneComponent.{standing, set-right, set-too-large}
 use borrow.Author.Needs.{needs}
 use Rattle.picker.proofs.components.component_set.Statement.{statement}
 use Rattle.picker.proofs.components.component_set.Tie as tie
@@ -31,7 +31,7 @@ returns : tie.Need-returns
 returns c =
     let q = c .before .before .before .before .before .before .before in
     let b = q .build-component in
-    part-too-large (start q .pre .0) (start q .pre .1) (b .last .1 .1 .0) (b .kept .1 .1 .0) (b .ensures) _ (c .before .enum-told .given .1)
+    set-too-large (start q .pre .0) (start q .pre .1) (b .last .1 .1 .0) (b .kept .1 .1 .0) (b .ensures) _ (c .before .enum-told .given .1)
     (c .next-member .ensures)
 
 -- ---- it fits
@@ -74,7 +74,7 @@ returns-2 c =
     let k = c .before .before .before .before .before .before in
     let q = built k in
     let b = q .build-component in
-    part-right (start q .pre .0) (start q .pre .1) (b .last .1 .1 .0) (b .kept .1 .1 .0) (b .ensures) _ _ (k .before .built .given .1) _ _
+    set-right (start q .pre .0) (start q .pre .1) (b .last .1 .1 .0) (b .kept .1 .1 .0) (b .ensures) _ _ (k .before .built .given .1) _ _
     (c .before .before .before .lightest .ensures) (c .used .ensures)
 
 pub component-set-spec : {M : Type 1} → statement M

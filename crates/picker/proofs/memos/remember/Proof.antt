@@ -2,7 +2,7 @@
 use mathlib.Core.Path.{_∙_}
 use native.Mathlib.Omega.{arith}
 use lib.ListN.{length-set}
-use Rattle.picker.specs.Work.{noted}
+use Rattle.picker.specs.Work.{codeAndCost}
 use Rattle.picker.proofs.Notes.{small-one, remembered-one}
 use borrow.Author.Needs.{needs}
 use Rattle.picker.proofs.memos.remember.Statement.{statement}
@@ -44,7 +44,7 @@ same-length : tie.Need-same-length
 same-length c = c .before .before .set-row .kept .1 .0 ∙ simp length-set
 
 returns : tie.Need-returns
-unfolding noted
+unfolding codeAndCost
 returns c =
     let s = c .before .before .before .before .before .before .before .before .before .before in
     let b = c .before .before .before .before .before .before .before .best .given in
