@@ -18,9 +18,6 @@ pub use making::build_component;
 use masks::Mask;
 use masks::Vertex;
 use nodes::MEMO;
-pub use search::Order;
-pub use search::search_component;
-pub use search::sources;
 
 // Whether the kept flip-flops hold a loop, with the largest need; or the refusal.
 pub enum Asked {
