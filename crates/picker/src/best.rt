@@ -19,13 +19,13 @@ pub enum Best {
     Nothing,
 }
 
-// The lightest set of a function that is not 1 everywhere. (One that is has none.) The memo may hold anything; no more of it is emptied and used than the
-// node room is long, since most words of that are not in use.
+// The lightest set of a function that is not 1 everywhere. (One that is has none.) The memo may hold anything; no more of it is emptied and used than
+// two words for each code, with which nothing is found twice.
 pub fn lightest(nodes: &[u64], memo: &mut [u64], function: Node, costs: &[u32]) -> Mask
     requires { ⌜ Standing (now nodes) (now costs) (function .0) × (2 ≤ length (now memo)) ⌝ }
     ensures { λ r. ⌜ LightestPromise (now (nodes .entry)) (now (costs .entry)) (function .0) (number r) ⌝ }
 {
-    let words = nodes::fewer(memo.len(), nodes.len() + 2);
+    let words = nodes::fewer(memo.len(), 2 * nodes.len() + 4);
     lightest_in(nodes, &mut memo[..words], function, costs)
 }
 

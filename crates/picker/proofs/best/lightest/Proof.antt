@@ -7,6 +7,9 @@ use borrow.Author.Needs.{needs}
 use Rattle.picker.proofs.best.lightest.Statement.{statement}
 use Rattle.picker.proofs.best.lightest.Tie as tie
 
+mul-fewer : tie.Need-mul-fewer
+mul-fewer c = search needs
+
 add-fewer : tie.Need-add-fewer
 add-fewer c = search needs
 
@@ -35,6 +38,7 @@ pub lightest-spec : {M : Type 1} → statement M
 lightest-spec =
     tie.close
     (tie.spec
+    mul-fewer
     add-fewer
     fewer-requires
     slice-relend-prefix-lightest-in
