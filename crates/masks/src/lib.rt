@@ -1,4 +1,6 @@
 // Flip-flops by number, and sets of them as masks.
+#![tactic(auto)]
+
 mod store;
 mod walk;
 
@@ -8,15 +10,16 @@ ghost use Rattle.std.specs.Int.Count.{ones};
 ghost use Rattle.masks.specs.Sets.{bit, put, cut, minus, number};
 
 // A flip-flop's number.
-#[derive(Drop)]
+#[derive(Clone, Copy)]
 pub struct Vertex(pub usize);
 
 // A set of flip-flops. Only this crate looks into the word.
-#[derive(Drop)]
+#[derive(Clone, Copy)]
 pub struct Mask(pub u64);
 
 impl Mask {
     // The empty set.
+    #[tactic(auto, unfolding(crate::specs::Sets::number))]
     pub fn none() -> Mask
         ensures { number result ≡ 0 }
     {
@@ -24,6 +27,7 @@ impl Mask {
     }
 
     // The set that a number stands for.
+    #[tactic(auto, unfolding(crate::specs::Sets::number))]
     pub fn of(word: u64) -> Mask
         ensures { number result ≡ word }
     {
@@ -31,6 +35,7 @@ impl Mask {
     }
 
     // The number that stands for the set.
+    #[tactic(auto, unfolding(crate::specs::Sets::number))]
     pub fn word(self) -> u64
         ensures { result ≡ number self }
     {
@@ -38,6 +43,7 @@ impl Mask {
     }
 
     // All flip-flops below n.
+    #[tactic(auto, unfolding(crate::specs::Sets::number))]
     pub fn below(n: usize) -> Mask
         requires { n ≤ 64 }
         ensures { number result ≡ 2 ^ n - 1 }
@@ -49,6 +55,7 @@ impl Mask {
     }
 
     // Row v of the rows as lent.
+    #[tactic(auto, unfolding(crate::specs::Sets::number))]
     pub fn row(rows: &[u64], v: Vertex) -> Mask
         requires { v.0 < length rows.now }
         ensures { number result ≡ get_or rows.now v.0 0 }
@@ -57,6 +64,7 @@ impl Mask {
         Mask(rows[at])
     }
 
+    #[tactic(auto, unfolding(crate::specs::Sets::number))]
     pub fn has(self, v: Vertex) -> bool
         requires { v.0 < 64 }
         ensures { result ≡ bit (number self) v.0 }
@@ -64,6 +72,7 @@ impl Mask {
         (self.0 >> v.0) & 1 == 1
     }
 
+    #[tactic(auto, unfolding(crate::specs::Sets::number))]
     pub fn put(self, v: Vertex) -> Mask
         requires { v.0 < 64 }
         ensures { number result ≡ put (number self) v.0 }
@@ -71,6 +80,7 @@ impl Mask {
         Mask(self.0 | (1u64 << v.0))
     }
 
+    #[tactic(auto, unfolding(crate::specs::Sets::number))]
     pub fn cut(self, v: Vertex) -> Mask
         requires { v.0 < 64 }
         ensures { number result ≡ cut (number self) v.0 }
@@ -78,30 +88,35 @@ impl Mask {
         Mask(self.0 & !(1u64 << v.0))
     }
 
+    #[tactic(auto, unfolding(crate::specs::Sets::number))]
     pub fn join(self, other: Mask) -> Mask
         ensures { number result ≡ bit_or (number self) (number other) }
     {
         Mask(self.0 | other.0)
     }
 
+    #[tactic(auto, unfolding(crate::specs::Sets::number))]
     pub fn meet(self, other: Mask) -> Mask
         ensures { number result ≡ bit_and (number self) (number other) }
     {
         Mask(self.0 & other.0)
     }
 
+    #[tactic(auto, unfolding(crate::specs::Sets::number))]
     pub fn without(self, other: Mask) -> Mask
         ensures { number result ≡ minus (number self) (number other) }
     {
         Mask(self.0 & !other.0)
     }
 
+    #[tactic(auto, unfolding(crate::specs::Sets::number))]
     pub fn is_empty(self) -> bool
         ensures { result ≡ eqb (number self) 0 }
     {
         self.0 == 0
     }
 
+    #[tactic(auto, unfolding(crate::specs::Sets::number))]
     pub fn count(self) -> u32
         ensures { result ≡ ones (number self) }
     {
@@ -109,6 +124,7 @@ impl Mask {
     }
 
     // Whether this set's number is the smaller one.
+    #[tactic(auto, unfolding(crate::specs::Sets::number))]
     pub fn less(self, other: Mask) -> bool
         ensures { result ≡ ltb (number self) (number other) }
     {
