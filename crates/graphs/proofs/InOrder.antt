@@ -119,6 +119,7 @@ met-more {E} {n} {from} {v} {C} {Cs} {Ds} next l comp low m = go Ds refl (⊎_el
     part D h = (m.all.all D).0 (Of-right D Cs Ds h)
 
     go : (Es : List ℕ) → Ds ≡ Es → Of C Es → (Fs : List ℕ) × (Ds ≡ C ∷ Fs) × Met E (v + 1) (Cs ++ (C ∷ [])) Fs
+    go [] e h = absurd h
     go (D ∷ Fs) e h = (Fs, e ∙ ap (λ z. z ∷ Fs) (sym first), step)
       where
         own : (G : ℕ) → Of G (D ∷ Fs) → Component E G

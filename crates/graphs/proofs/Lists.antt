@@ -39,6 +39,7 @@ differ-le (x ∷ xs) ys d h =
 -- ---- members of two lists together, and of an image
 
 pub Of-left : {A : Type 0} (x : A) (xs ys : List A) → Of x xs → Of x (xs ++ ys)
+Of-left x [] ys h = absurd h
 Of-left x (y ∷ xs) ys (inl e) = inl e
 Of-left x (y ∷ xs) ys (inr h) = inr (Of-left x xs ys h)
 
@@ -52,10 +53,12 @@ Of-cases x (y ∷ xs) ys (inl e) = inl (inl e)
 Of-cases x (y ∷ xs) ys (inr h) = ⊎_elim (λ k. inl (inr k)) (λ k. inr k) (Of-cases x xs ys h)
 
 pub Of-map : {A B : Type 0} (f : A → B) (x : A) (xs : List A) → Of x xs → Of (f x) (map f xs)
+Of-map f x [] h = absurd h
 Of-map f x (y ∷ xs) (inl e) = inl (ap f e)
 Of-map f x (y ∷ xs) (inr h) = inr (Of-map f x xs h)
 
 pub Of-from : {A B : Type 0} (f : A → B) (y : B) (xs : List A) → Of y (map f xs) → (x : A) × Of x xs × (y ≡ f x)
+Of-from f y [] h = absurd h
 Of-from f y (x ∷ xs) (inl e) = (x, inl refl, e)
 Of-from f y (x ∷ xs) (inr h) =
     let r = Of-from f y xs h in
@@ -96,6 +99,7 @@ of? x (y ∷ ys) = go (ℕ_discrete x y) (of? x ys)
     go (no k) (no h) = no (⊎_elim k h)
 
 pub of_at : (x : ℕ) (xs : List ℕ) → Of x xs → (i : ℕ) × (i < length xs) × (get_or xs i 0 ≡ x)
+of_at x [] h = absurd h
 of_at x (y ∷ xs) (inl e) = (0, omega arith, sym e)
 of_at x (y ∷ xs) (inr h) =
     let r = of_at x xs h in

@@ -53,6 +53,7 @@ ascending-rest C (D ∷ Cs) a = a.1
 -- the first is below all the others, where each has a lowest flip-flop
 pub ascending-all : (C : ℕ) (Cs : List ℕ) → ((D : ℕ) → Of D Cs → (v : ℕ) × Lowest D v) → Ascending (C ∷ Cs)
     → (D : ℕ) → Of D Cs → (v w : ℕ) → Lowest C v → Lowest D w → v < w
+ascending-all C [] some a D h v w p q = absurd h
 ascending-all C (B ∷ Cs) some a D (inl e) v w p q = a.0 v w p (subst (λ z. Lowest z w) e q)
 ascending-all C (B ∷ Cs) some a D (inr m) v w p q =
     let b = some B (inl refl) in

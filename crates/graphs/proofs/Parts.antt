@@ -43,6 +43,7 @@ joined-cases (S ∷ Ss) v t =
     (T-or (bit S v) (bit (joined Ss) v) (subst T (bit-or S (joined Ss) v) t))
 
 pub joined-holds : (Ss : List ℕ) (S v : ℕ) → Of S Ss → T (bit S v) → T (bit (joined Ss) v)
+joined-holds [] S v h t = absurd h
 joined-holds (R ∷ Ss) S v (inl e) t = rw (bit-or R (joined Ss) v) (or_l (bit R v) (bit (joined Ss) v) (subst (λ z. T (bit z v)) e t))
 joined-holds (R ∷ Ss) S v (inr h) t = rw (bit-or R (joined Ss) v) (or_r (bit R v) (bit (joined Ss) v) (joined-holds Ss S v h t))
 
@@ -140,6 +141,8 @@ sum-light c n A B A' B' a b a' b' d d' p q =
 module _ (c : ℕ → ℕ) (n : ℕ) (E : ℕ → ℕ → Bool) where
   -- the set of a part, and the part of a set
   bests-at : (Cs Ss : List ℕ) → Bests c n E Cs Ss → (C : ℕ) → Of C Cs → (S : ℕ) × Of S Ss × Least c n (Within C) (inside E C) S
+  bests-at [] Ss b C h = absurd h
+  bests-at (D ∷ Cs) [] b C _ = absurd b
   bests-at (D ∷ Cs) (S ∷ Ss) b C (inl e) = (S, inl refl, subst (λ z. Least c n (Within z) (inside E z) S) (sym e) b.0)
   bests-at (D ∷ Cs) (S ∷ Ss) b C (inr m) =
       let r = bests-at Cs Ss b.1 C m in

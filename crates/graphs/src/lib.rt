@@ -1,4 +1,6 @@
 // The checks that every operation on rows makes, and what a refusal is; who reaches whom, and the components.
+#![tactic(auto)]
+
 mod component;
 mod reaching;
 
@@ -11,13 +13,13 @@ use masks::{Mask, Vertex};
 pub use reaching::reach_rows;
 
 // A refusal: its number in the table, and its place.
-#[derive(Drop)]
+#[derive(Clone, Copy)]
 pub struct Refusal {
     pub number: u64,
     pub place: u64,
 }
 
-#[derive(Drop)]
+#[derive(Clone, Copy)]
 pub enum Checked {
     Passed,
     Refused(Refusal),

@@ -39,8 +39,8 @@ fn plain_rows(rows: &[u64]) -> [u64; 64]
 
 // Each of the first n rows that holds k takes row k in. The others are 0.
 fn take_in(reached: &mut [u64], n: usize, k: Vertex)
-    requires k_lt_n { (k.0 < n) × (n ≤ 64) × (n ≤ length reached.old) }
-    requires by_index { (u : ℕ) → n ≤ u → get_or reached.old u 0 ≡ 0 }
+    requires in_bounds { (k.0 < n) × (n ≤ 64) × (n ≤ length reached.old) }
+    requires rest_is_zero { (u : ℕ) → n ≤ u → get_or reached.old u 0 ≡ 0 }
     ensures { (u : ℕ) → get_or reached.new u 0 ≡ taken_in k.0 reached.old u }
 {
     let taken = Mask::row(reached, k);
