@@ -15,8 +15,3 @@ pub mod Stores
 pub mod Choices
 pub mod Logs
 pub mod Answers
-pub mod Again
-pub mod Locals
-pub mod Record
-pub mod Lending
-pub mod Loan

@@ -1,4 +1,6 @@
 // The reduction: its steps, and the operation.
+#![tactic(auto)]
+
 mod block;
 mod edges;
 mod rules;
@@ -18,7 +20,7 @@ use masks::{Mask, Vertex};
 use rules::{Choice, choose};
 
 // What was done with a flip-flop.
-#[derive(Drop)]
+#[derive(Clone, Copy)]
 pub enum Done {
     Forced,
     Dropped,
@@ -26,14 +28,14 @@ pub enum Done {
 }
 
 // A step of the reduction, as it is recorded.
-#[derive(Drop)]
+#[derive(Clone, Copy)]
 pub struct Step {
     pub vertex: Vertex,
     pub done: Done,
 }
 
 // The whole answer. The refusal is number 0 at place 0 where there is none.
-#[derive(Drop)]
+#[derive(Clone, Copy)]
 pub struct Reduced {
     pub refusal: Refusal,
     pub count: usize,

@@ -8,7 +8,7 @@ ghost use Rattle.reduction.specs.Work.{Beside, block, one_cheaper, asks, applies
 use masks::{Mask, Vertex};
 
 // A rule, by what it asks of a flip-flop: 1 an edge to itself, 2 no edge in or none out, 3 one in-neighbour, 4 one out-neighbour.
-#[derive(Drop)]
+#[derive(Clone, Copy)]
 pub enum Rule {
     Looped,
     Loose,

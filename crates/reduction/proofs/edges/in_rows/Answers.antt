@@ -1,0 +1,9 @@
+-- All rows are passed, and the sides go together.
+use Rattle.std.proofs.Common.{◌∙◌, arith}
+use Rattle.reduction.proofs.Sides.{beside-made}
+use Rattle.reduction.proofs.edges.in_rows.Goals as goal
+
+pub returns : goal.returns
+returns c =
+    let inv = c.loop-v.invariant in
+    beside-made _ _ (inv.long ∙ c.requires.0) c.requires.1 c.requires.2 (λ v l. inv.new v (omega arith))
