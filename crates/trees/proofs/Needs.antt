@@ -68,6 +68,7 @@ has_of x (y ∷ ys) e = go (Tree-discrete ℕ_discrete x y) e (has_of x ys)
     go (no k) e ih = inr (ih e)
 
 of-has : (x : Tree) (ys : List Tree) → Of x ys → has x ys ≡ true
+of-has x [] h = absurd h
 of-has x (y ∷ ys) h = go (Tree-discrete ℕ_discrete x y) h (of-has x ys)
   where
     go : (d : Dec (x ≡ y)) → (x ≡ y) ⊎ Of x ys → (Of x ys → has x ys ≡ true) → (is_yes d || has x ys) ≡ true
@@ -193,19 +194,24 @@ AllGood [] = Unit {0}
 AllGood (t ∷ ts) = Good 0 t × AllGood ts
 
 pub good_of : (ts : List Tree) → AllGood ts → (t : Tree) → Of t ts → Good 0 t
+good_of [] g t h = absurd h
 good_of (x ∷ ts) g t (inl e) = subst (Good 0) (sym e) g.0
 good_of (x ∷ ts) g t (inr h) = good_of ts g.1 t h
 
 -- a decision of one of the trees
 pub subs-from : (ts : List Tree) (s : Tree) → Of s (subs_all ts) → (t : Tree) × Of t ts × Of s (subs t)
+subs-from [] s h = absurd h
 subs-from (x ∷ ts) s h = ⊎_elim (λ k. (x, inl refl, k)) (λ k. let r = subs-from ts s k in (r.0, inr r.1, r.2)) (Of-cases s (subs x) (subs_all ts) h)
 
 pub subs-to : (ts : List Tree) (t s : Tree) → Of t ts → Of s (subs t) → Of s (subs_all ts)
+subs-to [] t s h k = absurd h
 subs-to (x ∷ ts) t s (inl e) k = Of-left s (subs x) (subs_all ts) (subst (λ z. Of s (subs z)) e k)
 subs-to (x ∷ ts) t s (inr h) k = Of-right s (subs x) (subs_all ts) (subs-to ts t s h k)
 
 -- a decision is no constant
 branch : (t s : Tree) → Of s (subs t) → (s ≢ off) × (s ≢ on)
+branch off s h = absurd h
+branch on s h = absurd h
 branch (br v l h) s (inl e) = ((λ p. let z : ◌≡◌ {A = ℕ} 0 1 = cc in omega arith), λ p. let z : ◌≡◌ {A = ℕ} 0 1 = cc in omega arith)
 branch (br v l h) s (inr k) = ⊎_elim (branch l s) (branch h s) (Of-cases s (subs l) (subs h) k)
 

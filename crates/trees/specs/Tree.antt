@@ -1,6 +1,5 @@
 -- Decision trees: functions of the kept set, one decision a flip-flop, "ordered by flip-flop number, lowest on top". Assumes nothing.
 use Rattle.std.specs.Prelude.{◌≢◌, Bool, true, false, ◌||◌, ◌&&◌, List, [], ◌∷◌, ◌++◌}
-use mathlib.Core.HLevel.{Discrete}
 use Prim.Native.Nat.{ℕ, suc, ◌≤◌, compare, Ordering}
 use Rattle.std.proofs.Math.Decide.{ℕ_discrete}
 use Rattle.masks.specs.Sets.{bit, pick}
