@@ -59,7 +59,7 @@ slots-all i (zero ∷ ws) (suc s) k =
 slots-all i (suc w ∷ ws) zero k = inl (omega arith)
 slots-all i (suc w ∷ ws) (suc s) k =
     let e : i + suc s ≡ suc i + s = omega arith in
-    rw e (inr (slots-all (suc i) ws s k))
+    subst (λ z. Of z (slots i (suc w ∷ ws))) (sym e) (inr (slots-all (suc i) ws s k))
 
 slots-differ : (i : ℕ) (ws : List ℕ) → Differ (slots i ws)
 unfolding slots

@@ -11,7 +11,7 @@ use super::{Made, Node, make};
 use masks::Vertex;
 
 // The branches of two nodes at the lower variable. A node of a larger variable is its own branch on both sides.
-#[derive(Drop)]
+#[derive(Clone, Copy)]
 pub struct Parts {
     pub v: Vertex,
     pub a0: Node,

@@ -1,6 +1,8 @@
 // The node room: functions of the kept set as nodes in a lent room of words, with a second room as the memo of joins. The operations work in the part of
 // the node room that counts, `&mut nodes[..n]` with n its capacity, after it was emptied and the memo cleared. A memo room as long as the node room is the
 // good choice for large needs; a short one costs time only, since a local one takes its place.
+#![tactic(auto)]
+
 mod joins;
 mod memos;
 mod probes;
@@ -26,18 +28,18 @@ const MOST: usize = 65536;
 pub const MEMO: usize = 4096;
 
 // A code: 0 and 1 are the constants, slot + 2 is a node.
-#[derive(Drop)]
+#[derive(Clone, Copy)]
 pub struct Node(pub u64);
 
 // What an operation that makes nodes answers: the code of what was asked for, or that the room is full.
-#[derive(Drop)]
+#[derive(Clone, Copy)]
 pub enum Made {
     At(Node),
     Full,
 }
 
 // What a code is: a constant, or a decision with its low and its high branch.
-#[derive(Drop)]
+#[derive(Clone, Copy)]
 pub enum Shape {
     Off,
     On,

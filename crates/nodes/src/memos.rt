@@ -6,7 +6,7 @@ ghost use Rattle.nodes.specs.Work.{Recalled, Remembered};
 use super::Node;
 use super::words::home;
 
-#[derive(Drop)]
+#[derive(Clone, Copy)]
 pub enum Seen {
     Answer(Node),
     Unknown,

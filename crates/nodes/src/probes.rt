@@ -5,7 +5,7 @@ ghost use Rattle.nodes.specs.Work.{Scanned, Probed};
 
 use super::words::home;
 
-#[derive(Drop)]
+#[derive(Clone, Copy)]
 pub enum Spot {
     Here(usize),
     Empty(usize),

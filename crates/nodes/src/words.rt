@@ -13,18 +13,21 @@ pub fn pack(v: Vertex, low: Node, high: Node) -> u64
     ((v.0 as u64) << 34) | ((low.0 << 17) | high.0)
 }
 
+#[tactic(auto, unfolding(crate::specs::Packing::variable_of))]
 pub fn variable_of(w: u64) -> Vertex
     ensures { result.0 ≡ variable_of w }
 {
     Vertex((w >> 34) as usize)
 }
 
+#[tactic(auto, using(std::proofs::lemmas::Nat::and_mask), unfolding(crate::specs::Packing::low_of))]
 pub fn low_of(w: u64) -> Node
     ensures { result.0 ≡ low_of w }
 {
     Node((w >> 17) & 0x1_ffff)
 }
 
+#[tactic(auto, using(std::proofs::lemmas::Nat::and_mask), unfolding(crate::specs::Packing::high_of))]
 pub fn high_of(w: u64) -> Node
     ensures { result.0 ≡ high_of w }
 {

@@ -1,16 +1,10 @@
--- `variable` meets its contract. Assumes nothing.
-use borrow.Author.Rules.{rules}
-use mathlib.Core.Path.{◌≡◌, refl}
-use mathlib.Core.List.{List}
-use Prim.Native.Nat.{ℕ, ◌<◌}
-use native.Mathlib.Omega.{arith}
+use Rattle.std.proofs.Common.{◌≡◌, ℕ, ◌<◌, List, refl, arith}
 use Rattle.trees.specs.Tree.{off, on, br}
 use Rattle.nodes.specs.Codes.{variables, is_off, is_on, Table}
 use Rattle.nodes.specs.Promise.{Outcome, Makeable, MakePromise}
 use Rattle.nodes.specs.declared.Made.{Made}
 use Rattle.trees.proofs.Branches.{mk-other}
-use Rattle.nodes.proofs.variable.Statement.{statement}
-use Rattle.nodes.proofs.variable.Tie as tie
+use Rattle.nodes.proofs.variable.Goals as goal
 
 -- the constants are there
 constants : (ws : List ℕ) (v : ℕ) → Table ws → v < variables → Makeable ws v 0 1
@@ -27,14 +21,8 @@ decided : (ws ws' : List ℕ) (v : ℕ) (r : Made) → MakePromise ws ws' v 0 1 
 decided ws ws' v r m =
     rw (mk-other v off on (λ e. let z : ◌≡◌ {A = ℕ} 0 1 = cc in omega arith)) at (m off on (is_off refl) (is_on refl))
 
-make-requires : tie.Need-make-requires
-make-requires c κs = constants _ _ c.before.before.requires.0 c.before.before.requires.1
+pub make-requires : goal.make-requires
+make-requires c = constants _ _ c.requires.0 c.requires.1
 
-same_length : tie.Need-same-length
-same_length c = search rules
-
-returns : tie.Need-returns
-returns c = decided _ _ _ c.before.before.make.result c.before.before.make.ensures
-
-pub variable-spec : {M : Type 1} → statement M
-variable-spec = tie.close (tie.spec make-requires same_length returns)
+pub returns : goal.returns
+returns c = decided _ _ _ c.make.result c.make.ensures
