@@ -67,13 +67,13 @@ module _ (n : ℕ) where
 
   pub fine-or_from : {t : Tree} (ts : List Tree) → Fine n t → AllFine n ts → Fine n (or_from t ts)
   unfolding or_from
-  fine-or_from [] f g = f
-  fine-or_from (s ∷ ss) f g = fine-or_from ss (fine-join true f g.0) g.1
+  fine-or_from {t = t} [] f g = f
+  fine-or_from {t = t} (s ∷ ss) f g = fine-or_from {t = join_t true t s} ss (fine-join true f g.0) g.1
 
   pub fine-ors_after : {t : Tree} (ts : List Tree) → Fine n t → AllFine n ts → AllFine n (ors_after_t t ts)
   unfolding ors_after_t
-  fine-ors_after [] f g = tt
-  fine-ors_after (s ∷ ss) f g = (fine-join true f g.0, fine-ors_after ss (fine-join true f g.0) g.1)
+  fine-ors_after {t = t} [] f g = tt
+  fine-ors_after {t = t} (s ∷ ss) f g = (fine-join true f g.0, fine-ors_after {t = join_t true t s} ss (fine-join true f g.0) g.1)
 
   pub fine-ors : (ts : List Tree) → AllFine n ts → AllFine n (ors_t ts)
   unfolding ors_t

@@ -91,6 +91,7 @@ module _ (E : ℕ → ℕ → Bool) (n capacity : ℕ) where
       f.5 ∙ ap₂ max (need-unique (functions E n C) f.0 g.0 f.2 g.2) (fit-unique Cs f.1 g.1 f.4 g.4) ∙ sym g.5
 
   pub excess-unique : (Cs : List ℕ) (p p' : ℕ) → Excess E n capacity Cs p → Excess E n capacity Cs p' → p ≡ p'
+  excess-unique [] p p' f g = absurd f
   excess-unique (C ∷ Cs) p p' f g = go f.2 g.2 (need-unique (functions E n C) f.0 g.0 f.1 g.1) (excess-unique Cs p p')
     where
       go : ((capacity < f.0) × Lowest C p) ⊎ ((f.0 ≤ capacity) × Excess E n capacity Cs p)
@@ -102,6 +103,7 @@ module _ (E : ℕ → ℕ → Bool) (n capacity : ℕ) where
       go (inr a) (inr b) e ih = ih a.1 b.1
 
   pub fit-or-excess : (Cs : List ℕ) (m p : ℕ) → Fit E n capacity Cs m → Excess E n capacity Cs p → ⊥
+  fit-or-excess [] m p f g = absurd g
   fit-or-excess (C ∷ Cs) m p f g = go g.2 (need-unique (functions E n C) f.0 g.0 f.2 g.1) f.3 (fit-or-excess Cs f.1 p f.4)
     where
       go : ((capacity < g.0) × Lowest C p) ⊎ ((g.0 ≤ capacity) × Excess E n capacity Cs p) → f.0 ≡ g.0 → f.0 ≤ capacity

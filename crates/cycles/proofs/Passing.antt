@@ -43,6 +43,7 @@ joined_of h xs f = (forth xs, λ r. back xs r.0 r.1 r.2)
         ⊎_elim (λ k. (x, inl refl, k)) (λ k. let r = forth xs k in (r.0, inr r.1, r.2)) (Of-cases f (h x) (joined (map h xs)) m)
 
     back : (xs : List ℕ) (v : ℕ) → Of v xs → Of f (h v) → Of f (joined (map h xs))
+    back [] v h m = absurd h
     back (x ∷ xs) v (inl e) m = Of-left f (h x) (joined (map h xs)) (subst (λ z. Of f (h z)) e m)
     back (x ∷ xs) v (inr k) m = Of-right f (h x) (joined (map h xs)) (back xs v k m)
 

@@ -1,4 +1,6 @@
 // The cycle function of a component: what a question about a kept set answers.
+#![tactic(auto)]
+
 mod making;
 mod search;
 mod tables;
@@ -17,7 +19,7 @@ use masks::{Mask, Vertex};
 use nodes::MEMO;
 
 // Whether the kept flip-flops hold a loop, with the largest need; or the refusal.
-#[derive(Drop)]
+#[derive(Clone, Copy)]
 pub enum Asked {
     Yes(usize),
     No(usize),

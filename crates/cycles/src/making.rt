@@ -14,7 +14,7 @@ use masks::{Mask, Vertex};
 use nodes::{Made, Node};
 
 // The cycle function of a component: in the first so many words of the node room, of which exactly the need is in use; or its need exceeds the room.
-#[derive(Drop)]
+#[derive(Clone, Copy)]
 pub enum Cycle {
     Within(usize, Node),
     Exceeds,

@@ -10,7 +10,7 @@ use graphs::{holders, inner_row};
 use masks::{Mask, Vertex};
 
 // B, and the flip-flops in the order in which their visits end, in the first count places.
-#[derive(Drop)]
+#[derive(Clone, Copy)]
 pub struct Order {
     pub back: Mask,
     pub flops: [usize; 64],
