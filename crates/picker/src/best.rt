@@ -10,7 +10,7 @@ use masks::{Mask, Vertex};
 use nodes::{Node, Shape};
 
 // The best set of a function after its cost; or there is none.
-#[derive(Drop)]
+#[derive(Clone, Copy)]
 pub enum Best {
     Set(u64, Mask),
     Nothing,
@@ -63,8 +63,8 @@ fn best_of(nodes: &[u64], memo: &mut [u64], node: Node, costs: &[u32]) -> Best
 
 // The set with v too.
 fn held(best: Best, v: Vertex, costs: &[u32]) -> Best
-    requires v_in_bounds { (v.0 < length costs.now) × (length costs.now ≤ 64) }
-    requires priced { Priced (cost_of costs.now) (length costs.now) best × Lacks v.0 best }
+    requires in_bounds { (v.0 < length costs.now) × (length costs.now ≤ 64) }
+    requires priced_without_v { Priced (cost_of costs.now) (length costs.now) best × Lacks v.0 best }
     ensures { (set_of result ≡ trees.held v.0 (set_of best)) × Priced (cost_of costs.now) (length costs.now) result }
 {
     match best {

@@ -1,4 +1,6 @@
 // The pick: what the operation answers, and the operation.
+#![tactic(auto)]
+
 mod best;
 mod components;
 mod memos;
@@ -16,7 +18,7 @@ use nodes::MEMO;
 use reduction::reduce;
 
 // The flip-flops to make scannable, what they cost together, and the largest need; or the refusal.
-#[derive(Drop)]
+#[derive(Clone, Copy)]
 pub enum Picked {
     Set(Mask, u64, usize),
     Refused(Refusal),
