@@ -1,4 +1,6 @@
 // Block files: a reader and a writer.
+#![tactic(auto)]
+
 mod bytes;
 mod parts;
 
@@ -13,21 +15,21 @@ use graphs::{Checked, Refusal};
 use parts::{fill_costs, fill_rows, rows_of, write_costs, write_heading, write_rows};
 
 // What a header holds: the number of flip-flops, or why the file is no block.
-#[derive(Drop)]
+#[derive(Clone, Copy)]
 pub enum Header {
     Count(usize),
     Refused(Refusal),
 }
 
 // The answer of the reader: a block of so many flip-flops, or the refusal.
-#[derive(Drop)]
+#[derive(Clone, Copy)]
 pub enum Reading {
     Block(usize),
     Refused(Refusal),
 }
 
 // The answer of the writer: the length of what it wrote, or the refusal.
-#[derive(Drop)]
+#[derive(Clone, Copy)]
 pub enum Writing {
     Length(usize),
     Refused(Refusal),
