@@ -9,15 +9,13 @@ pub fn ring(n: usize, both_ways: bool) -> [u64; 64]
 {
     let mut rows = [0u64; 64];
     let mut before = n - 1;
-    let mut v = 0;
-    while v < n {
+    for v in 0..n {
         let mut row = Mask::none().put(Vertex(after(v, n)));
         if both_ways {
             row = row.put(Vertex(before));
         }
         row.set_row(&mut rows, Vertex(v));
         before = v;
-        v += 1;
     }
     rows
 }
@@ -37,10 +35,8 @@ pub fn all_edges(n: usize) -> [u64; 64]
     requires { n ≤ 64 }
 {
     let mut rows = [0u64; 64];
-    let mut v = 0;
-    while v < n {
+    for v in 0..n {
         Mask::below(n).cut(Vertex(v)).set_row(&mut rows, Vertex(v));
-        v += 1;
     }
     rows
 }
@@ -48,15 +44,13 @@ pub fn all_edges(n: usize) -> [u64; 64]
 // 32 pairs, v and v + 32, with edges both ways.
 pub fn pairs() -> [u64; 64] {
     let mut rows = [0u64; 64];
-    let mut v = 0;
-    while v < 32 {
+    for v in 0..32 {
         Mask::none()
             .put(Vertex(v + 32))
             .set_row(&mut rows, Vertex(v));
         Mask::none()
             .put(Vertex(v))
             .set_row(&mut rows, Vertex(v + 32));
-        v += 1;
     }
     rows
 }
@@ -75,11 +69,9 @@ pub fn chain(n: usize) -> Trial
 {
     let mut rows = [0u64; 64];
     let mut costs = [0u32; 64];
-    let mut v = 0;
-    while v < n {
+    for v in 0..n {
         chain_row(v, n).set_row(&mut rows, Vertex(v));
         costs[v] = chain_cost(v, n);
-        v += 1;
     }
     Trial { rows, costs }
 }
