@@ -1,4 +1,6 @@
 // The node room for a C program that measures it. Codes are plain numbers here; FULL stands for a full room.
+#![tactic(auto)]
+
 ghost use Rattle.std.specs.Prelude.{◌<◌};
 ghost use Rattle.nodes.specs.Codes.{variables, Table};
 ghost use Rattle.nodes.specs.Promise.{Joinable};
