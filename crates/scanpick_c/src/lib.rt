@@ -1,4 +1,6 @@
 // The operations for programs in C: slices and numbers in, numbers out. include/scanpick.h says what each takes and gives.
+#![tactic(auto)]
+
 ghost use Rattle.std.specs.Prelude.{◌≡◌, map};
 ghost use Rattle.scanpick_c.specs.Promise.{step_word, PickGives, AskGives, ReduceGives, ReadGives, WriteGives};
 ghost use Rattle.scanpick_c.specs.Work.{Small, AllSmall};
