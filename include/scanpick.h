@@ -1,4 +1,4 @@
-/* The scan picker for C. Link with libscanpick_c.a (`rt staticlib scanpick_c`).
+/* The scan picker for C. Link with libscanpick_c.a (`rt lib` in crates/scanpick_c).
  *
  * A block has n flip-flops, 0 to n - 1, n at most 64. Bit w of rows[v] is set where an edge goes from v to w; costs[v] is what it costs to make v
  * scannable. A set of flip-flops is a mask. Edges from a flip-flop to itself count nowhere but in files.

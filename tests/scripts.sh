@@ -129,7 +129,7 @@ refuses 1 "block-show: $room: Is a directory" tools/block-show "$room"
 # ---- block-draw; the folder tools has no Graphviz and no rt
 
 mkdir "$room/tools"
-for tool in bash cat chmod date dirname find mkdir readlink rm sed touch; do ln -s "$(command -v $tool)" "$room/tools/$tool"; done
+for tool in bash cat chmod date dirname find mkdir readlink rm sed tee touch; do ln -s "$(command -v $tool)" "$room/tools/$tool"; done
 ln -s "$(python3 -c 'import sys; print(sys.executable)')" "$room/tools/python3"
 without() { PATH=$room/tools "$@"; }
 
@@ -181,9 +181,12 @@ refuses 2 'scanpick: usage: scanpick FILE, or scanpick < FILE' ./scanpick exampl
 
 # ---- scanpick: when the program is proved, in a repository with a stand-in for rt that makes a program which prints what it reads
 
-mkdir -p "$room/repo/crates/one"
+mkdir -p "$room/repo/crates/one/src" "$room/repo/crates/scanpick"
 cp scanpick "$room/repo"
-touch -d '2 hours ago' "$room/repo/crates.txt" "$room/repo/crates/one" "$room/repo/crates"
+touch "$room/repo/crates.txt" "$room/repo/crates/one/src/lib.rt"
+parts=(crates.txt crates/one/src crates/one/src/lib.rt)
+older() { (cd "$room/repo" && touch -d "$1" "${parts[@]}"); }
+older '2 hours ago'
 pick() { without "$room/repo/scanpick" "$@"; }
 says() { # WHAT LINES..
     printf '%s\n' "${@:2}" >"$room/expected"
@@ -194,46 +197,50 @@ silent() { # WHAT
     pick - <examples/a.txt 2>"$room/said" | gives "$1: what the program prints" examples/a.txt
     check "$1: nothing is said" [ ! -s "$room/said" ]
 }
-program=$room/repo/target/bin/scanpick
+program=$room/repo/crates/scanpick/out/scanpick
 proving='scanpick: proving and building the program; the first time this takes minutes'
-unproved='scanpick: the program is not proved, so it is not run; target/log/ has what the checker said'
+unproved='scanpick: the program is not proved, so it is not run; target/scanpick.log has what the checker said'
 
 refuses 2 'scanpick: the program has to be proved and built first, which needs the Rattle kit: rt is not on the path' pick examples/a.txt
 cat >"$room/tools/rt" <<'END'
 #!/usr/bin/env bash
 # what it reads here would be missing from the block
 cat >/dev/null
-[ "$*" = 'check scanpick' ] && [ -f crates.txt ] || exit 2
-echo 'fn one::of_many: proved'
-echo 'rt: one proved (0 s)'
-mkdir -p target/bin target/stamp
-[ ! -e target/stamp/scanpick ] || exit 0
-printf '#!/bin/sh\nexec cat\n' >target/bin/scanpick
-chmod +x target/bin/scanpick
-touch target/stamp/scanpick
+[ "$*" = run ] && [ "${PWD##*/}" = scanpick ] || exit 2
+echo 'fn one::of_many: proved' >&2
+echo 'crate one: modules loaded=1 checked=0' >&2
+mkdir -p out ../one/out
+if [ ! -e out/scanpick ]; then
+    printf '#!/bin/sh\nexec cat\n' >out/scanpick
+    chmod +x out/scanpick
+fi
+echo 'what the program prints where rt runs it'
 END
 chmod +x "$room/tools/rt"
-says 'the first time' "$proving" 'rt: one proved (0 s)'
+says 'the first time' "$proving" 'crate one: modules loaded=1 checked=0'
 silent 'the second time'
-for part in crates.txt crates crates/one; do
+check 'the log has what rt said' grep -q 'fn one::of_many: proved' "$room/repo/target/scanpick.log"
+for part in "${parts[@]}"; do
     touch -d '3 hours ago' "$program"
-    touch -d '4 hours ago' "$room/repo/crates.txt" "$room/repo/crates" "$room/repo/crates/one"
+    older '4 hours ago'
     silent 'older than the program'
     touch -d '2 hours ago' "$room/repo/$part"
-    says "$part is newer" "$proving" 'rt: one proved (0 s)'
+    says "$part is newer" "$proving" 'crate one: modules loaded=1 checked=0'
     silent "$part is newer, but the program need not change"
 done
+touch "$room/repo/crates/one/out/new"
+silent 'what rt keeps is newer'
 rm "$program"
-says 'the program alone removed' "$proving" 'rt: one proved (0 s)'
+says 'the program alone removed' "$proving" 'crate one: modules loaded=1 checked=0'
 rm "$program"
-printf '#!/bin/sh\necho "rt: one proved (unchanged)"\n' >"$room/tools/rt"
+printf '#!/bin/sh\necho "crate one: modules loaded=1 checked=0" >&2\n' >"$room/tools/rt"
 refuses 2 "$proving
-rt: one proved (unchanged)
-scanpick: rt left no target/bin/scanpick; remove target/ and try again" pick examples/a.txt
-printf '#!/bin/sh\ntouch target/bin/scanpick\nchmod +x target/bin/scanpick\necho "rt: FAILED: one"\nexit 1\n' >"$room/tools/rt"
+crate one: modules loaded=1 checked=0
+scanpick: rt left no crates/scanpick/out/scanpick; target/scanpick.log has what it said" pick examples/a.txt
+printf '#!/bin/sh\ntouch out/scanpick\nchmod +x out/scanpick\necho "crate one: modules loaded=1 checked=0" >&2\nexit 1\n' >"$room/tools/rt"
 for _ in first second; do
     refuses 1 "$proving
-rt: FAILED: one
+crate one: modules loaded=1 checked=0
 $unproved" pick examples/a.txt
 done
 
