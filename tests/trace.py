@@ -1,11 +1,15 @@
 #!/usr/bin/env python3
-"""Checks docs/TRACE.md: each name of a table stands in the file that is named after it. The status is 0 where nothing is wrong."""
+"""Checks docs/TRACE.md: each name of a table stands in the file that is named after it, and a function that is cited among the theorems has an `ensures`,
+or the cell says that it is safe and ends. The status is 0 where nothing is wrong."""
 import re
 import sys
 from pathlib import Path
 
 TRACE = Path(__file__).resolve().parent.parent / 'docs' / 'TRACE.md'
 ITEM = re.compile(r'`([^`]+)`|\[([^\]]+)\](?!\()')
+
+# the second of the columns after the sentence
+THEOREM = 1
 
 # how a name is defined, by the kind of file; where it is none of these, the file has the name as text
 DEFINED = {
@@ -18,13 +22,20 @@ DEFINED = {
 def stands(name, path):
     if path.is_dir():
         return (path / name).is_file() or (path / f'{name}.edit').is_file()
-    names = [name]
-    if path.suffix == '.rt' and name.endswith('-spec'):
-        # the theorem of functions that call each other has all their names
-        names = name[:-len('-spec')].strip('+').replace('-', '_').split('+')
     text = path.read_text()
     kind = DEFINED.get(path.suffix)
-    return all(re.search(kind.format(re.escape(part)), text, re.M) if kind else part in text for part in names)
+    return bool(re.search(kind.format(re.escape(name)), text, re.M)) if kind else name in text
+
+
+def promises(name, path):
+    """Whether the function has an `ensures`. Its clauses stand between its head and the line that opens its body."""
+    for head in re.finditer(rf'^ *(pub )?(extern "C" )?fn {re.escape(name)}\b', path.read_text(), re.M):
+        for line in head.string[head.start():].splitlines():
+            if line.lstrip().startswith('ensures'):
+                return True
+            if line.endswith('{') and not line.lstrip().startswith('requires'):
+                break
+    return False
 
 
 def check():
@@ -39,9 +50,10 @@ def check():
         cells = row.split('|')
         if len(cells) != 4:
             wrong.append(f'{len(cells)} cells: {row[:60]}')
-        for cell in cells[1:]:
+        for column, cell in enumerate(cells[1:]):
             waiting = []
-            for name, label in ITEM.findall(cell):
+            for item in ITEM.finditer(cell):
+                name, label = item.groups()
                 if name:
                     waiting.append(name)
                     continue
@@ -52,6 +64,8 @@ def check():
                     wrong.append(f'no name before [{label}]: {row[:60]}')
                 elif files[label].exists():
                     wrong += [f'{name} is not in {label}' for name in waiting if not stands(name, files[label])]
+                    if column == THEOREM and files[label].suffix == '.rt' and not cell[item.end():].startswith(': safe and ends'):
+                        wrong += [f'{name} of {label} has no ensures' for name in waiting if not promises(name, files[label])]
                 names, waiting = names + len(waiting), []
             wrong += [f'no file after {name}: {row[:60]}' for name in waiting]
     wrong += [f'not cited: [{label}]' for label in files.keys() - used]
