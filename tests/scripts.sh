@@ -129,7 +129,7 @@ refuses 1 "block-show: $room: Is a directory" tools/block-show "$room"
 # ---- block-draw; the folder tools has no Graphviz and no rt
 
 mkdir "$room/tools"
-for tool in bash cat chmod date dirname find mkdir readlink rm sed tee touch; do ln -s "$(command -v $tool)" "$room/tools/$tool"; done
+for tool in bash cat chmod date dirname find mkdir readlink rm sed sort tee touch; do ln -s "$(command -v $tool)" "$room/tools/$tool"; done
 ln -s "$(python3 -c 'import sys; print(sys.executable)')" "$room/tools/python3"
 without() { PATH=$room/tools "$@"; }
 
@@ -181,11 +181,11 @@ refuses 2 'scanpick: usage: scanpick FILE, or scanpick < FILE' ./scanpick exampl
 
 # ---- scanpick: when the program is proved, in a repository with a stand-in for rt that makes a program which prints what it reads
 
-mkdir -p "$room/repo/crates/one/src" "$room/repo/crates/scanpick"
+mkdir -p "$room/repo/crates/one/src" "$room/repo/crates/one/specs" "$room/repo/crates/scanpick" "$room/repo/crates/two"
 cp scanpick "$room/repo"
-touch "$room/repo/crates.txt" "$room/repo/crates/one/src/lib.rt"
-parts=(crates.txt crates/one/src crates/one/src/lib.rt)
-older() { (cd "$room/repo" && touch -d "$1" "${parts[@]}"); }
+touch "$room/repo/crates.txt" "$room/repo/crates/one/src/lib.rt" "$room/repo/crates/one/specs/Lib.antt" "$room/repo/crates/one/stdin"
+parts=(crates.txt crates crates/one/src crates/one/src/lib.rt)
+older() { find "$room/repo/crates.txt" "$room/repo/crates" -name out -prune -o -exec touch -d "$1" {} +; }
 older '2 hours ago'
 pick() { without "$room/repo/scanpick" "$@"; }
 says() { # WHAT LINES..
@@ -230,6 +230,15 @@ for part in "${parts[@]}"; do
 done
 touch "$room/repo/crates/one/out/new"
 silent 'what rt keeps is newer'
+mkdir "$room/repo/crates/one/data"
+older '4 hours ago'
+says 'a folder in a crate is new' "$proving" 'crate one: modules loaded=1 checked=0'
+for part in crates/one/specs crates/one/stdin crates/two; do
+    rm -r "$room/repo/$part"
+    older '4 hours ago'
+    says "$part is gone" "$proving" 'crate one: modules loaded=1 checked=0'
+    silent "$part is gone, and the program was proved without it"
+done
 rm "$program"
 says 'the program alone removed' "$proving" 'crate one: modules loaded=1 checked=0'
 rm "$program"
