@@ -179,6 +179,13 @@ refuses 2 'scanpick: no such.fvg: there is no such file' ./scanpick 'no such.fvg
 refuses 2 'scanpick: examples: this is a folder' ./scanpick examples
 refuses 2 'scanpick: usage: scanpick FILE, or scanpick < FILE' ./scanpick examples/a.fvg examples/two.fvg
 
+# ---- the program: reading fails, writing fails
+
+from_folder() { ./scanpick <examples; }
+to_full_disk() { ./scanpick examples/a.fvg >/dev/full; }
+refuses 1 'Error: Os { code: 21, kind: IsADirectory, message: "Is a directory" }' from_folder
+refuses 1 'Error: Os { code: 28, kind: StorageFull, message: "No space left on device" }' to_full_disk
+
 # ---- scanpick: when the program is proved, in a repository with a stand-in for rt that makes a program which prints what it reads
 
 mkdir -p "$room/repo/crates/one/src" "$room/repo/crates/one/specs" "$room/repo/crates/scanpick" "$room/repo/crates/two"

@@ -1,7 +1,9 @@
 #!/usr/bin/env python3
 """Spells this repository's own names in specs/, proofs/, the clauses of src/ and must-fail edits as today's Rattle does.
 
-    tools/respell.py            run once on a fresh checkout after port.py; run again it changes nothing
+It ran once, right after the kit's port.py, in the second commit that docs/PORT.md names, and stays as the record of what that commit renamed.
+
+    tools/respell.py            run again it changes nothing
     tools/respell.py --dry      only print what would change, and which names would fall together
 
 A word (a definition, a lemma, a field, a variable) that begins with a small letter and has a capital inside, as `costOf`, `joinT-at`, becomes
