@@ -192,7 +192,7 @@ mkdir -p "$room/repo/crates/one/src" "$room/repo/crates/one/specs" "$room/repo/c
 cp scanpick "$room/repo"
 touch "$room/repo/crates.txt" "$room/repo/crates/one/src/lib.rt" "$room/repo/crates/one/specs/Lib.antt" "$room/repo/crates/one/stdin"
 parts=(crates.txt crates crates/one/src crates/one/src/lib.rt)
-older() { find "$room/repo/crates.txt" "$room/repo/crates" -name out -prune -o -exec touch -d "$1" {} +; }
+older() { (cd "$room/repo" && find crates.txt crates -regex 'crates/[^/]*/out' -prune -o -exec touch -d "$1" {} +); }
 older '2 hours ago'
 pick() { without "$room/repo/scanpick" "$@"; }
 says() { # WHAT LINES..
@@ -237,9 +237,11 @@ for part in "${parts[@]}"; do
 done
 touch "$room/repo/crates/one/out/new"
 silent 'what rt keeps is newer'
-mkdir "$room/repo/crates/one/data"
+mkdir -p "$room/repo/crates/one/data" "$room/repo/crates/one/src/out"
 older '4 hours ago'
 says 'a folder in a crate is new' "$proving" 'crate one: modules loaded=1 checked=0'
+touch "$room/repo/crates/one/src/out/mod.rt"
+says 'a file in a folder out of src/ is new' "$proving" 'crate one: modules loaded=1 checked=0'
 for part in crates/one/specs crates/one/stdin crates/two; do
     rm -r "$room/repo/$part"
     older '4 hours ago'

@@ -28,13 +28,10 @@ def stands(name, path):
 
 
 def promises(name, path):
-    """Whether the function has an `ensures`. Its clauses stand between its head and the line that opens its body."""
-    for head in re.finditer(rf'^ *(pub )?(extern "C" )?fn {re.escape(name)}\b', path.read_text(), re.M):
-        for line in head.string[head.start():].splitlines():
-            if line.lstrip().startswith('ensures'):
-                return True
-            if line.endswith('{') and not line.lstrip().startswith('requires'):
-                break
+    """Whether the function has an `ensures`: the clauses stand between its head and the brace on a line of its own that opens its body, with no empty line."""
+    for head in re.finditer(rf'^( *)(pub )?(extern "C" )?fn {re.escape(name)}\b.*?^\1{{$', path.read_text(), re.M | re.S):
+        if '\n\n' not in head.group() and re.search(r'^ *ensures\b', head.group(), re.M):
+            return True
     return False
 
 
@@ -43,6 +40,7 @@ def check():
     files = {label: TRACE.parent / path for label, path in re.findall(r'^\[([^\]]+)\]: (.+)$', text, re.M)}
     wrong = [f'no such file: {path}' for path in files.values() if not path.exists()]
     sentences, names, used = 0, 0, set()
+    wrong += [f'no row of a table: {line[:60]}' for line in text.splitlines() if line.startswith('|') and not line.endswith('|')]
     for row in re.findall(r'^\| (.+) \|$', text, re.M):
         if row.startswith('sentence |'):
             continue
