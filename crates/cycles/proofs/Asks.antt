@@ -98,17 +98,17 @@ module _ (E : ℕ → ℕ → Bool) (n : ℕ) (low : EdgesBelow E n) (K : ℕ) w
   holds-iff Cs comps = Iff.trans (holds_parts Cs (λ C m. (comps.all C).0 m)) (Iff.symm (loop-parts low comps (bit K)))
 
 -- the answer, given what fits and whether a loop is kept
-answer-by : (rows : List ℕ) (kept room : ℕ) (Cs : List ℕ) → Components (edge rows) Cs → (r : Fitting) → Fits (edge rows) (length rows) room Cs r → (h : Bool)
+answer_by-right : (rows : List ℕ) (kept room : ℕ) (Cs : List ℕ) → Components (edge rows) Cs → (r : Fitting) → Fits (edge rows) (length rows) room Cs r → (h : Bool)
     → T h ↔ Loop (edge rows) (bit kept) → AskAnswer rows kept room (answer_by r h)
-answer-by rows kept room Cs comps (fits m) f true l = (record { parts = Cs; are = comps; fit = f }, l.0 tt)
-answer-by rows kept room Cs comps (fits m) f false l = (record { parts = Cs; are = comps; fit = f }, l.1)
-answer-by rows kept room Cs comps (exceeds p) f h l = (refl, record { parts = Cs; are = comps; excess = f })
+answer_by-right rows kept room Cs comps (fits m) f true l = (record { parts = Cs; are = comps; fit = f }, l.0 tt)
+answer_by-right rows kept room Cs comps (fits m) f false l = (record { parts = Cs; are = comps; fit = f }, l.1)
+answer_by-right rows kept room Cs comps (exceeds p) f h l = (refl, record { parts = Cs; are = comps; excess = f })
 
 pub answer-right : (rows : List ℕ) (kept room : ℕ) → RowsFit rows → (Cs : List ℕ) → Components (edge rows) Cs
     → AskAnswer rows kept room (answer_of (edge rows) (length rows) kept room Cs)
 answer-right rows kept room fit Cs comps =
     let low : EdgesBelow (edge rows) (length rows) = edges-below rows fit in
-    answer-by rows kept room Cs comps (fitting (edge rows) (length rows) room Cs)
+    answer_by-right rows kept room Cs comps (fitting (edge rows) (length rows) room Cs)
     (fitting-is (edge rows) (length rows) room low Cs (λ C m. (comps.all C).0 m)) (holds_t (edge rows) (length rows) Cs kept)
     (holds-iff (edge rows) (length rows) low kept Cs comps)
 

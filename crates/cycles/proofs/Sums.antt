@@ -69,9 +69,9 @@ or_over f [] = f
 or_over f (g ∷ gs) = or_over (either f g) gs
 
 -- it may begin at 0
-ors-after : (fs : List (ℕ → Bool)) → ors fs ≡ ors_after (λ K. false) fs
-ors-after [] = refl
-ors-after (f ∷ fs) = refl
+ors_after-none : (fs : List (ℕ → Bool)) → ors fs ≡ ors_after (λ K. false) fs
+ors_after-none [] = refl
+ors_after-none (f ∷ fs) = refl
 
 ors_after-append : (f : ℕ → Bool) (gs hs : List (ℕ → Bool)) → ors_after f (gs ++ hs) ≡ ors_after f gs ++ ors_after (or_over f gs) hs
 unfolding or_over
@@ -80,7 +80,7 @@ ors_after-append f (g ∷ gs) hs = ap (λ L. either f g ∷ L) (ors_after-append
 
 pub ors-append : (gs hs : List (ℕ → Bool)) → (rest : List (ℕ → Bool)) × (ors (gs ++ hs) ≡ ors gs ++ rest)
 ors-append gs hs =
-    (ors_after (or_over (λ K. false) gs) hs, ors-after (gs ++ hs) ∙ ors_after-append (λ K. false) gs hs ∙ ap (λ L. L ++ ors_after (or_over (λ K. false) gs) hs) (sym (ors-after gs)))
+    (ors_after (or_over (λ K. false) gs) hs, ors_after-none (gs ++ hs) ∙ ors_after-append (λ K. false) gs hs ∙ ap (λ L. L ++ ors_after (or_over (λ K. false) gs) hs) (sym (ors_after-none gs)))
 
 -- those of a list are among those of a longer one
 pub ors-in : (gs hs : List (ℕ → Bool)) (f : ℕ → Bool) → Of f (ors gs) → Of f (ors (gs ++ hs))
@@ -123,8 +123,8 @@ module _ (S : ℕ) (g : ℕ → ℕ → Bool) where
     ors-next : ors_below (suc u) S g ≡ ors_below u S g ++ (either (any_below u S g) (g u) ∷ [])
     ors-next =
         ap (λ xs. ors (map g xs)) (each_next S u t) ∙ ap ors (map-append g (each u (bit S)) (u ∷ []))
-        ∙ ors-after (map g (each u (bit S)) ++ (g u ∷ [])) ∙ ors_after-append (λ K. false) (map g (each u (bit S))) (g u ∷ [])
-        ∙ ap₂ (λ L f. L ++ (either f (g u) ∷ [])) (sym (ors-after (map g (each u (bit S))))) (or_over-is u)
+        ∙ ors_after-none (map g (each u (bit S)) ++ (g u ∷ [])) ∙ ors_after-append (λ K. false) (map g (each u (bit S))) (g u ∷ [])
+        ∙ ap₂ (λ L f. L ++ (either f (g u) ∷ [])) (sym (ors_after-none (map g (each u (bit S))))) (or_over-is u)
 
   -- from i to the next member
   module _ (i u : ℕ) (l : i ≤ u) (h : (w : ℕ) → i ≤ w → w < u → T (bit S w) → ⊥) where
