@@ -12,7 +12,7 @@ use lib.Dec.{T}
 use Rattle.masks.specs.Sets.{bit, cut, lowest}
 use Rattle.masks.proofs.Tests.{T_true}
 use Rattle.masks.proofs.Bits.{bit-low, bit-suc, no_member}
-use Rattle.masks.proofs.Members.{cut-add, cut-same, cut-other}
+use Rattle.masks.proofs.PutCut.{cut-add, cut-same, cut-other}
 use Rattle.masks.proofs.Lowest.{lowest-cases}
 
 pub ones-add : (v m : ℕ) → bit m v ≡ false → ones (m + 2 ^ v) ≡ suc (ones m)

@@ -9,7 +9,7 @@ use borrow.Author.Tests.{le-leb, lt-leb, leb-true}
 use lib.Dec.{T, leb}
 use Rattle.masks.specs.Sets.{bit, lowest}
 use Rattle.masks.proofs.Tests.{T_and, T_true, and_T}
-use Rattle.masks.proofs.Lowest.{lowest-is, lowest-none, lowest-le, lowest-cases}
+use Rattle.masks.proofs.Lowest.{lowest-is, lowest-le, lowest-cases}
 
 -- the members at or above `from`
 abbrev pub onward : ℕ → ℕ → ℕ → Bool
@@ -27,9 +27,6 @@ onward-no m from v h = go (dec_lt v from)
 pub next-found : (m from v : ℕ) → v < 64 → from ≤ v → bit m v ≡ true → ((w : ℕ) → from ≤ w → w < v → bit m w ≡ false)
     → v ≡ lowest 64 (onward m from)
 next-found m from v l k t h = sym (lowest-is 64 (onward m from) v l (rw (le-leb from v k) t) (λ w j. onward-no m from w (λ i. h w i j)))
-
-pub next-none : (m from : ℕ) → ((w : ℕ) → from ≤ w → w < 64 → bit m w ≡ false) → 64 ≡ lowest 64 (onward m from)
-next-none m from h = sym (lowest-none 64 (onward m from) (λ w j. onward-no m from w (λ i. h w i j)))
 
 -- one position more that holds no member
 pub past_more : (m from v : ℕ) → ((w : ℕ) → from ≤ w → w < v → bit m w ≡ false) → bit m v ≡ false

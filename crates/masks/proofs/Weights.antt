@@ -12,7 +12,7 @@ use lib.Pow.{pow_pos}
 use Rattle.masks.specs.Sets.{bit, pick, put, cut, weight}
 use Rattle.masks.proofs.Tests.{T_true, T_false}
 use Rattle.masks.proofs.Bits.{bit-ext, bit-or, bit-and, bit-zero, same-members}
-use Rattle.masks.proofs.Members.{put_same, put_other, put-cut, cut-same}
+use Rattle.masks.proofs.PutCut.{put_same, put_other, put-cut, cut-same}
 
 pub weight-ext : (c : ℕ → ℕ) (n a b : ℕ) → ((v : ℕ) → v < n → bit a v ≡ bit b v) → weight c n a ≡ weight c n b
 unfolding weight

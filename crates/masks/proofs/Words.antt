@@ -13,7 +13,7 @@ use lib.Pow.{pow-lt, pow_pos}
 use lib.Bits.{bit_and, bit_or, and_mask, and_le_l, and_lt, or_lt, or_disjoint}
 use Rattle.masks.specs.Sets.{bit, put, cut, minus}
 use Rattle.masks.proofs.Bits.{bit-ext, bit-zero, bit-or, bit-and, comp-bit, add_same, add-other}
-use Rattle.masks.proofs.Members.{put_same, put_other, put-lt, cut-same, cut-other, cut-lt}
+use Rattle.masks.proofs.PutCut.{put_same, put_other, put-lt, cut-same, cut-other, cut-lt}
 
 -- 1 shifted by v, in a word of w bits
 pub shifted_one : (w v : ℕ) → v < w → 1 * 2 ^ v % 2 ^ w ≡ 2 ^ v
