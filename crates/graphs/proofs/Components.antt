@@ -14,6 +14,7 @@ use Rattle.masks.specs.Sets.{bit, those}
 use Rattle.masks.proofs.Tests.{T_and, and_T}
 use Rattle.graphs.specs.Graph.{edge, plain, Of, Walk}
 use Rattle.graphs.specs.Light.{Meets, Lightest}
+use Rattle.graphs.specs.Coming.{around, leads, add, leading}
 use Rattle.graphs.specs.Components.{every, Component, Lowest, Ascending, Components, inside}
 use Rattle.masks.proofs.Bits.{same-members}
 use Rattle.masks.proofs.Those.{those-iff, those-none}
@@ -56,23 +57,6 @@ pub component-one : {E : ℕ → ℕ → Bool} {C D : ℕ} → Component E C →
 component-one {E} {C} {D} p q v s t = same-members C D (λ w. Iff.trans (component-at p v s w) (Iff.symm (component-at q v t w)))
 
 -- ---- the sets that a decision of who reaches whom gives
-
--- those that v reaches and is reached by
-unfoldable pub around : ℕ → (ℕ → ℕ → Bool) → ℕ → ℕ
-around n reach v = those n (λ w. reach v w && reach w v)
-
--- v is the lowest of its set
-unfoldable pub leads : ℕ → (ℕ → ℕ → Bool) → ℕ → Bool
-leads n reach v = bit (around n reach v) v && eqb (those v (bit (around n reach v))) 0
-
--- the sets of those that lead, of k flip-flops from v on
-abbrev pub add : Bool → ℕ → List ℕ → List ℕ
-add true C Cs = C ∷ Cs
-add false C Cs = Cs
-
-unfoldable pub leading : ℕ → (ℕ → ℕ → Bool) → ℕ → ℕ → List ℕ
-leading n reach zero v = []
-leading n reach (suc k) v = add (leads n reach v) (around n reach v) (leading n reach k (suc v))
 
 -- the components of the graph as lent
 unfoldable pub components_of : List ℕ → List ℕ

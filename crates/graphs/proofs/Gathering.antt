@@ -1,75 +1,74 @@
 -- Those of a set whose rows hold v, gathered member by member; and the edges of a member inside its component. Assumes nothing.
 use mathlib.Core.Path.{◌≡◌, refl, sym, ap, ◌∙◌, subst}
-use mathlib.Core.Logic.{◌↔◌}
+use mathlib.Core.Logic.{◌↔◌, ◌≢◌}
 use mathlib.Core.Bool.{Bool, true, false, not, ◌&&◌, and-false, and_comm}
 use mathlib.Core.List.{List}
-use Prim.Native.Nat.{ℕ, ◌+◌, ◌≤◌, ◌<◌}
-use native.Mathlib.Omega.{arith}
+use Prim.Native.Nat.{ℕ}
 use native.Mathlib.Decide.{ℕ_discrete}
 use lib.Bits.{bit_and}
 use lib.Dec.{T, eqb}
-use lib.ListN.{length, get_or, get_or-eq_default}
+use lib.ListN.{get_or}
 use borrow.Author.Tests.{eq-eqb, ne_eqb}
-use Rattle.masks.specs.Sets.{bit, put, cut, lowest}
-use Rattle.masks.proofs.Tests.{T_and, and_T, T_true, T_false}
+use Rattle.masks.specs.Sets.{bit, put, cut}
+use Rattle.masks.specs.Walk.{IsLowestOf}
+use Rattle.masks.proofs.Tests.{T_and, and_T, T_true}
 use Rattle.masks.proofs.Bits.{bit-zero, bit-and}
-use Rattle.masks.proofs.Members.{cut-same, cut-other}
-use Rattle.masks.proofs.Nexts.{onward, Next, next-is, next-after}
+use Rattle.masks.proofs.PutCut.{put_same, put_other, cut-same, cut-other, cut-from}
 use Rattle.graphs.specs.Graph.{edge, Walk}
 use Rattle.graphs.specs.Components.{every, inside}
 use Rattle.graphs.specs.Work.{Reaching, Around}
-use Rattle.graphs.proofs.Turns.{Gathered, gathered_none, gathered-put, gathered-skip, gathered-all}
 
 -- ---- those of a set whose rows hold v
 
 abbrev pub holds : List ℕ → ℕ → ℕ → ℕ → Bool
 holds rows among v u = bit among u && bit (get_or rows u 0) v
 
--- u is the next member, or 64, and those below it were gathered
-pub record Gathering (rows : List ℕ) (among v u found : ℕ) : Type 0 where
-  pub bounded : u ≤ 64
-  pub member : u < 64 → T (bit among u)
-  pub those : Gathered (holds rows among v) u found
+-- s has the members that are still to come; of those that came, the ones that pass were gathered
+pub record Gathering (rows : List ℕ) (among v s found : ℕ) : Type 0 where
+  pub part : (w : ℕ) → T (bit s w) → T (bit among w)
+  pub those : (w : ℕ) → bit found w ≡ (not (bit s w) && holds rows among v w)
 
 module _ (rows : List ℕ) (among v : ℕ) where
-  out : (u : ℕ) → (T (bit among u) → ⊥) → holds rows among v u ≡ false
-  out u h = rw (T_false (bit among u) h)
-
-  -- from i, which was passed, to the next member
-  gather-to : (i u found : ℕ) → i ≤ 64 → u ≡ lowest 64 (onward among i) → Gathered (holds rows among v) i found → Gathering rows among v u found
-  gather-to i u found b e g =
-      let x : Next among i u = next-is among i u e in
-      record {
-        bounded = x.bounded;
-        member = λ l. (x.found l).1;
-        those = gathered-skip (holds rows among v) i u found (next-after b x) (λ w k l. out w (x.passed w k l)) g;
-      }
-
-  pub gather_none : (u found : ℕ) → found ≡ 0 → u ≡ lowest 64 (onward among 0) → Gathering rows among v u found
-  gather_none u found z e = gather-to 0 u found (omega arith) e (gathered_none (holds rows among v) found z)
-
-  module _ (u found next after row : ℕ) (is_row : row ≡ get_or rows u 0) (l : u < 64) (e : after ≡ lowest 64 (onward among (u + 1)))
-      (g : Gathering rows among v u found) where
-    here : (x : Bool) → bit row v ≡ x → holds rows among v u ≡ x
-    here x t = rw (T_true (bit among u) (g.member l), ← is_row) t
-
-    pub gather-yes : bit row v ≡ true → next ≡ put found u → Gathering rows among v after next
-    gather-yes t q =
-        gather-to (u + 1) after next (omega arith) e
-        (subst (Gathered (holds rows among v) (u + 1)) (sym q) (gathered-put (holds rows among v) u found (here true t) g.those))
-
-    pub gather-no : bit row v ≡ false → next ≡ found → Gathering rows among v after next
-    gather-no t q =
-        gather-to (u + 1) after next (omega arith) e
-        (subst (Gathered (holds rows among v) (u + 1)) (sym q)
-        (gathered-skip (holds rows among v) u (u + 1) found (omega arith)
-        (λ w i j. subst (λ z. holds rows among v z ≡ false) (omega arith) (here false t)) g.those))
-
-  pub gather-all : (u found : ℕ) → length rows ≤ 64 → 64 ≤ u → Gathering rows among v u found → (w : ℕ) → bit found w ≡ holds rows among v w
-  gather-all u found few l g = gathered-all (holds rows among v) u found past g.those
+  pub gather_none : (s found : ℕ) → s ≡ among → found ≡ 0 → Gathering rows among v s found
+  gather_none s found e z = record { part = λ w t. subst (λ x. T (bit x w)) e t; those = λ w. rw (e, z, bit-zero w) (go (bit among w) (bit (get_or rows w 0) v)) }
     where
-      past : (w : ℕ) → u ≤ w → holds rows among v w ≡ false
-      past w i = rw (get_or-eq_default rows 0 {n = w} (omega arith), bit-zero v) (and-false (bit among w))
+      go : (x y : Bool) → false ≡ (not x && (x && y))
+      go true y = refl
+      go false y = refl
+
+  -- a turn: u is taken from s, which leaves t
+  module _ (s u t found next row : ℕ) (is_row : row ≡ get_or rows u 0) (taken : IsLowestOf s u t) (g : Gathering rows among v s found) where
+    part_of : (w : ℕ) → T (bit t w) → T (bit among w)
+    part_of w i = g.part w (cut-from s u w (subst (λ x. T (bit x w)) taken.rest i)).1
+
+    here : (x : Bool) → bit row v ≡ x → holds rows among v u ≡ x
+    here x e = rw (T_true (bit among u) (g.part u taken.member), ← is_row) e
+
+    -- at any other flip-flop nothing changes
+    other : (w : ℕ) → w ≢ u → bit found w ≡ (not (bit t w) && holds rows among v w)
+    other w k = g.those w ∙ ap (λ (x : Bool). not x && holds rows among v w) (sym (ap (λ (m : ℕ). bit m w) taken.rest ∙ cut-other s u w k))
+
+    gone : bit t u ≡ false
+    gone = ap (λ (m : ℕ). bit m u) taken.rest ∙ cut-same s u
+
+    pub gather-yes : bit row v ≡ true → next ≡ put found u → Gathering rows among v t next
+    gather-yes e q = record { part = part_of; those = λ w. ap (λ (m : ℕ). bit m w) q ∙ go w (ℕ_discrete w u) }
+      where
+        go : (w : ℕ) → Dec (w ≡ u) → bit (put found u) w ≡ (not (bit t w) && holds rows among v w)
+        go w (yes d) = rw (d, put_same found u, gone, here true e) refl
+        go w (no k) = put_other found u w k ∙ other w k
+
+    pub gather-no : bit row v ≡ false → next ≡ found → Gathering rows among v t next
+    gather-no e q = record { part = part_of; those = λ w. ap (λ (m : ℕ). bit m w) q ∙ go w (ℕ_discrete w u) }
+      where
+        go : (w : ℕ) → Dec (w ≡ u) → bit found w ≡ (not (bit t w) && holds rows among v w)
+        go w (yes d) =
+            let b : bit found u ≡ false = g.those u ∙ ap (λ (x : Bool). not x && holds rows among v u) (T_true (bit s u) taken.member) in
+            rw (d, b, gone, here false e) refl
+        go w (no k) = other w k
+
+  pub gather-all : (s found : ℕ) → s ≡ 0 → Gathering rows among v s found → (w : ℕ) → bit found w ≡ holds rows among v w
+  gather-all s found z g w = g.those w ∙ ap (λ (x : Bool). not x && holds rows among v w) (ap (λ (m : ℕ). bit m w) z ∙ bit-zero w)
 
 -- ---- the edges of a member inside its component
 

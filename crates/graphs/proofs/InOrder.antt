@@ -12,13 +12,15 @@ use native.Mathlib.Decide.{ℕ_discrete, dec_lt}
 use lib.Dec.{T, eqb, eqb→eq}
 use lib.ListN.{length, get_or}
 use borrow.Author.Tests.{eq-eqb}
-use Rattle.masks.specs.Sets.{bit, lowest}
-use Rattle.masks.proofs.Bits.{same-members}
-use Rattle.masks.proofs.Nexts.{onward, Next, next-is, next-least}
+use Rattle.std.specs.Prelude.{Option, Some, None}
+use Rattle.masks.specs.Sets.{bit}
+use Rattle.masks.specs.Walk.{IsLowestOf}
+use Rattle.masks.specs.declared.Vertex.{Vertex}
+use Rattle.masks.proofs.Bits.{same-members, bit-zero}
 use Rattle.graphs.specs.Graph.{edge, Of}
 use Rattle.graphs.specs.Components.{Component, Lowest, Ascending, Components}
 use Rattle.graphs.specs.Refusals.{first, checks}
-use Rattle.graphs.specs.Work.{Sound, Reaching, Around, Leads, NextComponent}
+use Rattle.graphs.specs.Work.{Sound, Reaching, Around, Leads, NoneLeads, NextComponent}
 use Rattle.graphs.proofs.Lists.{Of-cases, Of-right}
 use Rattle.graphs.proofs.Walks.{source-lt}
 use Rattle.graphs.proofs.Lowest.{lowest-one, ascending-rest, ascending-all}
@@ -27,46 +29,46 @@ use Rattle.graphs.proofs.Components.{EdgesBelow, component-lowest, component-at,
 
 -- ---- one flip-flop
 
-module _ {E : ℕ → ℕ → Bool} {v : ℕ} (C : ℕ) (small : v < 64) (around : Around E v C) where
-  pub leads_one : lowest 64 (onward C 0) ≡ v → Component E C × Lowest C v
-  leads_one e = (record { member = v; on_loop = ((around v).0 holds).0; exact = around }, record { holds = holds; least = λ w t. next-least x w (omega arith) t })
-    where
-      x : Next C 0 v
-      x = next-is C 0 v (sym e)
+module _ {E : ℕ → ℕ → Bool} {v : ℕ} (C : ℕ) (around : Around E v C) where
+  pub leads_one : Lowest C v → Component E C × Lowest C v
+  leads_one low = (record { member = v; on_loop = ((around v).0 low.holds).0; exact = around }, low)
 
-      holds : T (bit C v)
-      holds = (x.found small).1
+  pub leads-none : (Lowest C v → ⊥) → (D : ℕ) → Component E D → Lowest D v → ⊥
+  leads-none k D p l = k (subst (λ z. Lowest z v) (same-members D C (λ w. Iff.trans (component-at p v l.holds w) (Iff.symm (around w)))) l)
 
-  pub leads-none : (lowest 64 (onward C 0) ≡ v → ⊥) → (D : ℕ) → Component E D → Lowest D v → ⊥
-  leads-none k D p l = k (omega (arith, below, low.least r (x.found (omega (arith, below))).1))
-    where
-      r : ℕ
-      r = lowest 64 (onward C 0)
-
-      x : Next C 0 r
-      x = next-is C 0 r refl
-
-      same : D ≡ C
-      same = same-members D C (λ w. Iff.trans (component-at p v l.holds w) (Iff.symm (around w)))
-
-      low : Lowest C v
-      low = subst (λ z. Lowest z v) same l
-
-      below : r ≤ v
-      below = next-least x v (omega arith) low.holds
+-- the set around one that leads is its component
+pub led-around : {E : ℕ → ℕ → Bool} {v : ℕ} (C : ℕ) → Leads E v true → Around E v C → Component E C × Lowest C v
+led-around {E} {v} C led around = (subst (Component E) same led.1, subst (λ z. Lowest z v) same led.2)
+  where
+    same : led.0 ≡ C
+    same = same-members led.0 C (λ w. Iff.trans (component-at led.1 v led.2.holds w) (Iff.symm (around w)))
 
 -- one that is on no loop leads none
 pub unreached-none : {E : ℕ → ℕ → Bool} (reached : List ℕ) (v : ℕ) → Reaching E reached → bit (get_or reached v 0) v ≡ false
     → (D : ℕ) → Component E D → Lowest D v → ⊥
 unreached-none reached v right e D p l = subst T e ((right v v).1 ((component-at p v l.holds v).0 l.holds).0)
 
+-- the first member of a walk is the lowest
+lowest-first : {C u t : ℕ} → IsLowestOf C u t → Lowest C u
+lowest-first {C} {u} h = record { holds = h.member; least = λ w m. go w m (dec_lt w u) }
+  where
+    go : (w : ℕ) → T (bit C w) → Dec (w < u) → u ≤ w
+    go w m (yes k) = absurd (h.lowest w k m)
+    go w m (no k) =
+        let k' : ¬ (w < u) = k in
+        omega arith
+
 -- as a test tells it
-pub leads-test : {E : ℕ → ℕ → Bool} {v : ℕ} (C : ℕ) → v < 64 → Around E v C → (x : Bool) → x ≡ eqb (lowest 64 (onward C 0)) v → Leads E v x
-leads-test {v = v} C small around true e =
-    let led = leads_one C small around (eqb→eq (lowest 64 (onward C 0)) v (subst T e tt)) in
+pub leads-test : {E : ℕ → ℕ → Bool} {v u t : ℕ} (C : ℕ) → Around E v C → IsLowestOf C u t → (x : Bool) → x ≡ eqb u v → Leads E v x
+leads-test {v = v} {u = u} C around h true e =
+    let led = leads_one C around (subst (Lowest C) (eqb→eq u v (subst T e tt)) (lowest-first h)) in
     (C, led.0, led.1)
-leads-test {v = v} C small around false e =
-    leads-none C small around (λ q. subst T (sym e) (subst T (sym (eq-eqb (lowest 64 (onward C 0)) v q)) tt))
+leads-test {v = v} {u = u} C around h false e =
+    leads-none C around (λ l. subst T (sym e) (subst T (sym (eq-eqb u v (lowest-one C u v (lowest-first h) l))) tt))
+
+-- where it has no member
+pub leads-empty : {E : ℕ → ℕ → Bool} {v : ℕ} (C : ℕ) → Around E v C → C ≡ 0 → Leads E v false
+leads-empty {v = v} C around z = leads-none C around (λ l. subst T (ap (λ (m : ℕ). bit m v) z ∙ bit-zero v) l.holds)
 
 -- one more that leads none
 pub past_more : {E : ℕ → ℕ → Bool} {from v : ℕ} → ((u C : ℕ) → from ≤ u → u < v → Component E C → Lowest C u → ⊥)
@@ -78,6 +80,21 @@ past_more {E} {from} {v} h e u C k l p q = go (ℕ_discrete u v)
     go (no z) =
         let z' : u ≢ v = z in
         h u C k (omega arith) p q
+
+-- ---- the next one as a number: n where there is none
+
+abbrev pub at_or : ℕ → Option Vertex → ℕ
+at_or n None = n
+at_or n (Some v) = v.0
+
+pub record NextAt (E : ℕ → ℕ → Bool) (n from r : ℕ) : Type 0 where
+  pub bounded : r ≤ n
+  pub found : r < n → (from ≤ r) × ((C : ℕ) × Component E C × Lowest C r)
+  pub passed : NoneLeads E from r
+
+pub next_at : {E : ℕ → ℕ → Bool} {n from : ℕ} (r : Option Vertex) → NextComponent E n from r → NextAt E n from (at_or n r)
+next_at None h = record { bounded = omega arith; found = λ l. absurd (omega arith); passed = h }
+next_at (Some v) h = record { bounded = omega (arith, h.inner.1); found = λ l. (h.inner.0, h.leads); passed = h.passed }
 
 -- ---- all of them: Cs were met, and Ds are to come, from `from` on
 
@@ -95,17 +112,11 @@ ascending-later [] Ds a = a
 ascending-later (C ∷ Cs) Ds a = ascending-later Cs Ds (ascending-rest C (Cs ++ Ds) a)
 
 -- the set around the next one found is its component
-pub found-around : {E : ℕ → ℕ → Bool} {n from v : ℕ} (C : ℕ) → NextComponent E n from v → v < n → Around E v C → Component E C × Lowest C v
-found-around {E} {n} {from} {v} C next l around = (subst (Component E) same r.1, subst (λ z. Lowest z v) same r.2)
-  where
-    r : (D : ℕ) × Component E D × Lowest D v
-    r = (next.found l).1
-
-    same : r.0 ≡ C
-    same = same-members r.0 C (λ w. Iff.trans (component-at r.1 v r.2.holds w) (Iff.symm (around w)))
+pub found-around : {E : ℕ → ℕ → Bool} {n from v : ℕ} (C : ℕ) → NextAt E n from v → v < n → Around E v C → Component E C × Lowest C v
+found-around C next l around = led-around C (next.found l).1 around
 
 -- the next one found is the first of those to come
-pub met-more : {E : ℕ → ℕ → Bool} {n from v C : ℕ} {Cs Ds : List ℕ} → NextComponent E n from v → v < n → Component E C → Lowest C v → Met E from Cs Ds
+pub met-more : {E : ℕ → ℕ → Bool} {n from v C : ℕ} {Cs Ds : List ℕ} → NextAt E n from v → v < n → Component E C → Lowest C v → Met E from Cs Ds
     → (Es : List ℕ) × (Ds ≡ C ∷ Es) × Met E (v + 1) (Cs ++ (C ∷ [])) Es
 met-more {E} {n} {from} {v} {C} {Cs} {Ds} next l comp low m = go Ds refl (⊎_elim (λ h. absurd (before h)) (λ h. h) (Of-cases C Cs Ds ((m.all.all C).1 comp)))
   where
@@ -157,7 +168,7 @@ met-more {E} {n} {from} {v} {C} {Cs} {Ds} next l comp low m = go Ds refl (⊎_el
             }
 
 -- where none is found, all were met
-pub met_all : {E : ℕ → ℕ → Bool} {n from v : ℕ} {Cs Ds : List ℕ} → EdgesBelow E n → NextComponent E n from v → n ≤ v → Met E from Cs Ds
+pub met_all : {E : ℕ → ℕ → Bool} {n from v : ℕ} {Cs Ds : List ℕ} → EdgesBelow E n → NextAt E n from v → n ≤ v → Met E from Cs Ds
     → (Ds ≡ []) × Components E Cs
 met_all {E} {n} {from} {v} {Cs} {Ds} low next l m = (none Ds refl, subst (Components E) (ap (λ z. Cs ++ z) (none Ds refl) ∙ append-nil Cs) m.all)
   where
@@ -170,31 +181,31 @@ met_all {E} {n} {from} {v} {Cs} {Ds} low next l m = (none Ds refl, subst (Compon
         let k : d.0 < n = source-lt (λ a b h. (low a b h).0) ((component-at p d.0 d.1.holds d.0).0 d.1.holds).0 in
         absurd (next.passed d.0 D (m.coming D d.0 here d.1) (omega arith) p d.1)
 
--- ---- the loop of a caller: v is what `next_component` gave, Cs were met, and Ds are to come
+-- ---- the loop of a caller: v is what `next_component` gave, or n, Cs were met, and Ds are to come
 
 pub record Walking (E : ℕ → ℕ → Bool) (n v : ℕ) (Cs Ds : List ℕ) : Type 0 where
   pub from : ℕ
-  pub next : NextComponent E n from v
+  pub next : NextAt E n from v
   pub met : Met E from Cs Ds
 
-pub walking-first : {E : ℕ → ℕ → Bool} {n v : ℕ} {Ds : List ℕ} → Components E Ds → NextComponent E n 0 v → Walking E n v [] Ds
-walking-first comps x = record { from = 0; next = x; met = met-none comps }
+pub walking-first : {E : ℕ → ℕ → Bool} {n : ℕ} {Ds : List ℕ} (r : Option Vertex) → Components E Ds → NextComponent E n 0 r → Walking E n (at_or n r) [] Ds
+walking-first r comps x = record { from = 0; next = next_at r x; met = met-none comps }
 
 -- the set around v is the first of those to come
 pub walking-part : {E : ℕ → ℕ → Bool} {n v : ℕ} {Cs Ds : List ℕ} (C : ℕ) → Walking E n v Cs Ds → v < n → Around E v C → Component E C × Lowest C v
 walking-part C w l around = found-around C w.next l around
 
-pub walking-more : {E : ℕ → ℕ → Bool} {n v after C : ℕ} {Cs Ds : List ℕ} → Walking E n v Cs Ds → v < n → Component E C → Lowest C v
-    → NextComponent E n (v + 1) after → (Es : List ℕ) × (Ds ≡ C ∷ Es) × Walking E n after (Cs ++ (C ∷ [])) Es
-walking-more {E} {n} {v} {after} {C} {Cs} {Ds} w l comp low x =
+pub walking-more : {E : ℕ → ℕ → Bool} {n v C : ℕ} {Cs Ds : List ℕ} (after : Option Vertex) → Walking E n v Cs Ds → v < n → Component E C → Lowest C v
+    → NextComponent E n (v + 1) after → (Es : List ℕ) × (Ds ≡ C ∷ Es) × Walking E n (at_or n after) (Cs ++ (C ∷ [])) Es
+walking-more {E} {n} {v} {C} {Cs} {Ds} after w l comp low x =
     let r = met-more w.next l comp low w.met in
-    (r.0, r.1, record { from = v + 1; next = x; met = r.2 })
+    (r.0, r.1, record { from = v + 1; next = next_at after x; met = r.2 })
 
 pub walking-all : {E : ℕ → ℕ → Bool} {n v : ℕ} {Cs Ds : List ℕ} → EdgesBelow E n → Walking E n v Cs Ds → n ≤ v → (Ds ≡ []) × Components E Cs
 walking-all low w l = met_all low w.next l w.met
 
 -- each turn goes up
-pub walking-up : {E : ℕ → ℕ → Bool} {n v after : ℕ} → v < n → NextComponent E n (v + 1) after → (v < after) × (after ≤ n)
+pub walking-up : {E : ℕ → ℕ → Bool} {n v after : ℕ} → v < n → NextAt E n (v + 1) after → (v < after) × (after ≤ n)
 walking-up {E} {n} {v} {after} l x = (go (dec_lt after n), x.bounded)
   where
     go : Dec (after < n) → v < after

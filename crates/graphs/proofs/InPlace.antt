@@ -3,13 +3,16 @@
 use mathlib.Core.Path.{◌≡◌, refl, sym, ap, ap₂, ◌∙◌, subst}
 use mathlib.Core.Logic.{◌↔◌}
 use mathlib.Core.Bool.{Bool, true, false}
-use mathlib.Core.List.{List}
-use Prim.Native.Nat.{ℕ, suc, ◌+◌, ◌≤◌, ◌<◌}
+use mathlib.Core.List.{List, ◌++◌}
+use Prim.Native.Nat.{ℕ, suc, ◌+◌, ◌-◌, ◌≤◌, ◌<◌}
+use native.Mathlib.Decide.{dec_lt}
 use native.Mathlib.Omega.{arith}
 use native.Mathlib.Numerals.{add-one}
 use lib.Bits.{bit_or, or_zero_r}
 use lib.Dec.{T}
-use lib.ListN.{length, get_or, set, replicate, get_or-eq_default}
+use lib.ListN.{length, get_or, set, drop, replicate, length-append, length-replicate, get_or-append, get_or-eq_default}
+use lib.Seq.{ext_get_or, get_or-append_right}
+use Rattle.std.proofs.lemmas.List.{drop-replicate}
 use Rattle.masks.specs.Sets.{bit, cut, pick}
 use Rattle.masks.proofs.Bits.{bit-zero}
 use Rattle.graphs.specs.Graph.{edge, plain, Walk}
@@ -33,11 +36,9 @@ Plain rows v r = r ≡ get_or (plain rows) v 0
 pub plain_at : (rows : List ℕ) (v m x : ℕ) → m ≡ get_or rows v 0 → x ≡ cut m v → Plain rows v x
 plain_at rows v m x p q = q ∙ ap₂ cut p (omega arith) ∙ sym (plain_row 0 rows v)
 
-plain-past : (rows : List ℕ) (u : ℕ) → length rows ≤ u → get_or (plain rows) u 0 ≡ 0
-plain-past rows u l = get_or-eq_default (plain rows) 0 (omega (arith, plain-length 0 rows))
-
-pub plain-all : (rows found : List ℕ) (v : ℕ) → length rows ≤ v → Rowed (Plain rows) (zeros 64) v found → (u : ℕ) → Plain rows u (get_or found u 0)
-plain-all rows found v l r = rowed-all (Plain rows) (zeros 64) v found (λ u k. all_alike 0 64 u ∙ sym (plain-past rows u (omega arith))) r
+pub plain-all : (rows outs found : List ℕ) (v : ℕ) → length outs ≡ length rows → length rows ≤ v → Rowed (Plain rows) outs v found → found ≡ plain rows
+plain-all rows outs found v e l r =
+    ext_get_or 0 found (plain rows) (r.long ∙ e ∙ sym (plain-length 0 rows)) (λ u k. r.done u (omega (arith, r.long, e)))
 
 -- ---- one flip-flop taken in
 
@@ -90,9 +91,21 @@ pub record Closing (rows : List ℕ) (k : ℕ) (reached : List ℕ) : Type 0 whe
   pub long : length reached ≡ 64
   pub same : (u : ℕ) → get_or reached u 0 ≡ get_or (closure k (plain rows)) u 0
 
-pub closing-none : (rows reached : List ℕ) → length reached ≡ 64 → ((u : ℕ) → get_or reached u 0 ≡ get_or (plain rows) u 0) → Closing rows 0 reached
+-- the rows with self edges dropped, and 0s behind them
+pub closing-none : (rows found : List ℕ) → length rows ≤ 64 → found ≡ plain rows → Closing rows 0 (found ++ drop (length rows) (zeros 64))
 unfolding closure
-closing-none rows reached l h = record { inner = omega arith; long = l; same = h }
+closing-none rows found few e = record { inner = omega arith; long = long; same = λ u. rw e (same u (dec_lt u (length rows))) }
+  where
+    long : length (found ++ drop (length rows) (zeros 64)) ≡ 64
+    long = rw (e, length-append, plain-length, drop-replicate, length-replicate) (omega (arith, few))
+
+    same : (u : ℕ) → Dec (u < length rows) → get_or (plain rows ++ drop (length rows) (zeros 64)) u 0 ≡ get_or (plain rows) u 0
+    same u (yes l) = get_or-append (plain rows) (drop (length rows) (zeros 64)) 0 u (rw plain-length l)
+    same u (no k) =
+        let k' : ¬ (u < length rows) = k in
+        let l : length (plain rows) ≤ u = rw plain-length (omega arith) in
+        rw drop-replicate
+        (get_or-append_right (plain rows) (zeros (64 - length rows)) u 0 l ∙ all_alike 0 (64 - length rows) (u - length (plain rows)) ∙ sym (get_or-eq_default (plain rows) 0 l))
 
 pub closing-past : (rows : List ℕ) (k : ℕ) (reached : List ℕ) → Closing rows k reached → (u : ℕ) → length rows ≤ u → get_or reached u 0 ≡ 0
 closing-past rows k reached c u l =

@@ -11,4 +11,6 @@ pub mod Parts
 pub mod Lowest
 pub mod Components
 pub mod InOrder
+pub mod Whole
+pub mod Coming
 pub mod Tables

@@ -8,7 +8,7 @@ use native.Mathlib.Omega.{arith}
 use native.Mathlib.Decide.{ℕ_discrete, dec_lt}
 use lib.Pow.{pow-lt, pow_pos}
 use Rattle.masks.specs.Sets.{bit, put, cut, weight}
-use Rattle.masks.proofs.Members.{put-kept, put-new, put_same, put_other, put-lt, cut-add, cut-same, cut-other, cut-lt}
+use Rattle.masks.proofs.PutCut.{put-kept, put-new, put_same, put_other, put-lt, cut-add, cut-same, cut-other, cut-lt}
 use Rattle.masks.proofs.Weights.{weight-new, weight-gone}
 use Rattle.graphs.specs.Light.{Lighter, Lightest}
 use Rattle.graphs.proofs.Walks.{flip, flip-walk}
@@ -38,9 +38,9 @@ lighter-total c n S R = go (compared (weight c n S) (weight c n R)) (compared S 
     go : (weight c n S < weight c n R) ⊎ ((weight c n S ≡ weight c n R) ⊎ (weight c n R < weight c n S)) → (S < R) ⊎ ((S ≡ R) ⊎ (R < S))
         → Lighter c n S R ⊎ ((S ≡ R) ⊎ Lighter c n R S)
     go (inl l) d = inl (inl l)
-    go (inr (inl e)) (inl l) = inl (inr (e, l))
+    go (inr (inl e)) (inl l) = inl (inr (e, omega arith))
     go (inr (inl e)) (inr (inl f)) = inr (inl f)
-    go (inr (inl e)) (inr (inr l)) = inr (inr (inr (sym e, l)))
+    go (inr (inl e)) (inr (inr l)) = inr (inr (inr (sym e, omega arith)))
     go (inr (inr l)) d = inr (inr (inl l))
 
 pub lighter-not : (c : ℕ → ℕ) (n S R : ℕ) → Lighter c n S R → AsLight c n R S → ⊥

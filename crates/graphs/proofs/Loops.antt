@@ -13,7 +13,7 @@ use lib.Pow.{pow_pos}
 use Rattle.masks.specs.Sets.{bit, cut}
 use Rattle.masks.proofs.Tests.{T_and, T_true, T-ne, ne-T, T?, T-no}
 use Rattle.masks.proofs.Bits.{bit-zero, bit_high}
-use Rattle.masks.proofs.Members.{cut-gone, cut-same, cut-other, cut-lt}
+use Rattle.masks.proofs.PutCut.{cut-gone, cut-same, cut-other, cut-lt}
 use Rattle.graphs.specs.Graph.{edge, plain_from, plain, Of, Differ, Walk, edge_to, step_to, Chain, Loop}
 use Rattle.graphs.specs.Light.{left, Meets}
 use Rattle.graphs.specs.Components.{every}

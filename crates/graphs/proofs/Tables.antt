@@ -1,17 +1,19 @@
 -- The refusal table: the first line that is given, of two lists of lines one after the other, and what is left of the checks where a number of rows is
 -- right already. Assumes nothing.
-use mathlib.Core.Path.{◌≡◌, refl, sym, ◌∙◌}
+use mathlib.Core.Path.{◌≡◌, refl, sym, ap₂, ◌∙◌}
 use mathlib.Core.Bool.{Bool, true, false, true≢false}
 use mathlib.Core.List.{List, [], ◌∷◌, ◌++◌}
 use mathlib.Core.Option.{Option, none, some}
 use Prim.Native.Nat.{ℕ, ◌≤◌}
 use native.Mathlib.Omega.{arith}
 use borrow.Author.Tests.{le-ltb, lt-leb, eq-eqb, ltb-false, leb-false, eqb-true, not-false}
+use lib.Dec.{eqb}
 use lib.ListN.{length}
-use Rattle.masks.specs.Sets.{lowest}
+use Rattle.masks.specs.Sets.{pick, lowest}
 use Rattle.masks.proofs.Lowest.{lowest-none, lowest-under}
-use Rattle.graphs.specs.Refusals.{Line, first, too_many, unequal, wide, outside, checks}
-use Rattle.graphs.specs.declared.Refusal.{Refusal}
+use Rattle.graphs.specs.Refusals.{number_of, place_of, Line, first, too_many, unequal, wide, outside, checks}
+use Rattle.graphs.specs.declared.refusal.Refusal.{Refusal}
+use Rattle.graphs.specs.declared.refusal.Refusal.TheVariants.{TooManyRows, UnequalCosts, RowOutside, RoomTooSmall, Foreign, OtherVersion, OtherLength, OutputTooShort, KeptOutside}
 use Rattle.graphs.proofs.Loops.{RowsFit}
 
 -- none of a list is given: its first line is not, and none of the rest is
@@ -21,7 +23,7 @@ first_off l ls e = go l.given refl
     go : (x : Bool) → l.given ≡ x → l.given ≡ false
     go false g = g
     go true g =
-        let f : ◌≡◌ {A = Option Refusal} (some (record { number = l.number; place = l.place })) none = rw g at e in
+        let f : ◌≡◌ {A = Option Refusal} (some l.refusal) none = rw g at e in
         absurd (let z : ◌≡◌ {A = ℕ} 0 1 = cc in omega arith)
 
 pub first_rest : (l : Line) (ls : List Line) → first (l ∷ ls) ≡ none → first ls ≡ none
@@ -50,9 +52,53 @@ first_some (l ∷ ls) ms r e = go l.given refl (first_some ls ms r) e
     go true g ih e = rw g (rw g at e)
     go false g ih e = rw g (ih (rw g at e))
 
--- two refusals with the same number and place
-pub refusal-same : (r s : Refusal) → r.number ≡ s.number → r.place ≡ s.place → r ≡ s
-refusal-same r s p q = λ i. record { number = p i; place = q i }
+-- two refusals with the same number and place: number and place give it back
+abbrev pub refusal_at : ℕ → ℕ → Refusal
+refusal_at n p =
+    pick (eqb n 1) TooManyRows
+    (pick (eqb n 2) UnequalCosts
+    (pick (eqb n 3) (RowOutside p)
+    (pick (eqb n 4) (RoomTooSmall p)
+    (pick (eqb n 5) Foreign (pick (eqb n 6) OtherVersion (pick (eqb n 7) OtherLength (pick (eqb n 8) OutputTooShort KeptOutside)))))))
+
+refusal-back : (r : Refusal) → refusal_at (number_of r) (place_of r) ≡ r
+refusal-back TooManyRows = refl
+refusal-back UnequalCosts = refl
+refusal-back (RowOutside v) = refl
+refusal-back (RoomTooSmall v) = refl
+refusal-back Foreign = refl
+refusal-back OtherVersion = refl
+refusal-back OtherLength = refl
+refusal-back OutputTooShort = refl
+refusal-back KeptOutside = refl
+
+pub refusal-same : (r s : Refusal) → number_of r ≡ number_of s → place_of r ≡ place_of s → r ≡ s
+refusal-same r s p q = sym (refusal-back r) ∙ ap₂ refusal_at p q ∙ refusal-back s
+
+-- the table as document 01 writes it, by number and place: its first line that is given is the one above
+pub record Written : Type 0 where
+  pub given : Bool
+  pub number : ℕ
+  pub place : ℕ
+
+abbrev pub written : Line → Written
+written l = record { given = l.given; number = number_of l.refusal; place = place_of l.refusal }
+
+abbrev pub first_written : List Line → Option (ℕ × ℕ)
+first_written [] = none
+first_written (l ∷ ls) = let w : Written = written l in pick w.given (some (w.number, w.place)) (first_written ls)
+
+abbrev pub told : Option Refusal → Option (ℕ × ℕ)
+told none = none
+told (some r) = some (number_of r, place_of r)
+
+pub told-first : (ls : List Line) → told (first ls) ≡ first_written ls
+told-first [] = refl
+told-first (l ∷ ls) = go l.given (told-first ls)
+  where
+    go : (x : Bool) → told (first ls) ≡ first_written ls → told (pick x (some l.refusal) (first ls)) ≡ pick x (some (number_of l.refusal, place_of l.refusal)) (first_written ls)
+    go true e = refl
+    go false e = e
 
 -- n rows, n at most 64: only refusal 3 is left
 pub checks-rows : (rows : List ℕ) (n : ℕ) → length rows ≡ n → n ≤ 64 → first (checks rows n) ≡ first (outside rows ∷ [])

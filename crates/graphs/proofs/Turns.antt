@@ -1,17 +1,13 @@
--- What loops over flip-flops know after i of them: rows that are set one after the other, and a set that takes those that pass a test. One turn sets or puts,
--- and what a walk from one member to the next passes over changes nothing. Assumes nothing.
-use mathlib.Core.Path.{◌≡◌, refl, sym, ap, ◌∙◌, subst}
+-- What loops over flip-flops know after i of them: rows that are set one after the other. One turn sets a row, and what a walk from one member to the next passes
+-- over changes nothing. Assumes nothing.
+use mathlib.Core.Path.{◌≡◌, refl, sym, ◌∙◌, subst}
 use mathlib.Core.Logic.{◌≢◌}
-use mathlib.Core.Bool.{Bool, true, false}
 use mathlib.Core.List.{List}
 use Prim.Native.Nat.{ℕ, ◌+◌, ◌≤◌, ◌<◌}
 use native.Mathlib.Omega.{arith}
 use native.Mathlib.Decide.{ℕ_discrete, dec_lt}
 use lib.ListN.{length, get_or, set, length-set}
 use lib.Seq.{get_or-set_same, get_or-set_other}
-use Rattle.masks.specs.Sets.{bit, put}
-use Rattle.masks.proofs.Bits.{bit-zero}
-use Rattle.masks.proofs.Members.{put_same, put_other}
 
 -- ---- rows, set one after the other: those below i are as they should be, the others as they were
 
@@ -61,41 +57,3 @@ rowed-all P old i rows h r u = go (dec_lt u i)
     go (no q) =
         let q' : ¬ (u < i) = q in
         subst (P u) (sym (r.rest u (omega arith))) (h u (omega arith))
-
--- ---- a set that takes those below i that pass a test
-
-pub record Gathered (p : ℕ → Bool) (i m : ℕ) : Type 0 where
-  pub done : (u : ℕ) → u < i → bit m u ≡ p u
-  pub rest : (u : ℕ) → i ≤ u → bit m u ≡ false
-
-pub gathered_none : (p : ℕ → Bool) (m : ℕ) → m ≡ 0 → Gathered p 0 m
-gathered_none p m e = record { done = λ u l. absurd (omega arith); rest = λ u l. ap (λ x. bit x u) e ∙ bit-zero u }
-
--- one that is put
-pub gathered-put : (p : ℕ → Bool) (i m : ℕ) → p i ≡ true → Gathered p i m → Gathered p (i + 1) (put m i)
-gathered-put p i m e t = record { done = λ u k. done u k (ℕ_discrete u i); rest = λ u k. put_other m i u (omega arith) ∙ t.rest u (omega arith) }
-  where
-    done : (u : ℕ) → u < i + 1 → Dec (u ≡ i) → bit (put m i) u ≡ p u
-    done u k (yes q) = rw q (put_same m i ∙ sym e)
-    done u k (no q) =
-        let q' : u ≢ i = q in
-        put_other m i u q ∙ t.done u (omega arith)
-
--- those that do not pass
-pub gathered-skip : (p : ℕ → Bool) (i j m : ℕ) → i ≤ j → ((u : ℕ) → i ≤ u → u < j → p u ≡ false) → Gathered p i m → Gathered p j m
-gathered-skip p i j m l h t = record { done = λ u k. done u k (dec_lt u i); rest = λ u k. t.rest u (omega arith) }
-  where
-    done : (u : ℕ) → u < j → Dec (u < i) → bit m u ≡ p u
-    done u k (yes q) = t.done u q
-    done u k (no q) =
-        let q' : ¬ (u < i) = q in
-        t.rest u (omega arith) ∙ sym (h u (omega arith) k)
-
-pub gathered-all : (p : ℕ → Bool) (i m : ℕ) → ((u : ℕ) → i ≤ u → p u ≡ false) → Gathered p i m → (u : ℕ) → bit m u ≡ p u
-gathered-all p i m h t u = go (dec_lt u i)
-  where
-    go : Dec (u < i) → bit m u ≡ p u
-    go (yes q) = t.done u q
-    go (no q) =
-        let q' : ¬ (u < i) = q in
-        t.rest u (omega arith) ∙ sym (h u (omega arith))

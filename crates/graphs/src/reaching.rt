@@ -11,30 +11,24 @@ pub fn reach_rows(rows: &[u64]) -> [u64; 64]
     ensures { (length result ≡ 64) × Reaching (edge rows.now) result }
 {
     let n = rows.len();
-    let mut reached = plain_rows(rows);
-    let mut k = 0;
-    while k < n {
+    let mut reached = [0u64; 64];
+    drop_selves(rows, &mut reached[..n]);
+    for k in 0..n {
         take_in(&mut reached, n, Vertex(k));
-        k += 1;
     }
     reached
 }
 
-// The rows with self edges dropped. The rows past the last are 0.
-fn plain_rows(rows: &[u64]) -> [u64; 64]
-    requires { length rows.now ≤ 64 }
-    ensures { (length result ≡ 64) × ((v : ℕ) → get_or result v 0 ≡ get_or (plain rows.now) v 0) }
+// The rows with self edges dropped, in as many rows that are lent. They are rows of any words: nothing is asked of their bits.
+pub fn drop_selves(rows: &[u64], outs: &mut [u64])
+    requires { (length outs.old ≡ length rows.now) × (length rows.now ≤ 64) }
+    ensures { outs.new ≡ plain rows.now }
 {
-    let n = rows.len();
-    let mut found = [0u64; 64];
-    let mut v = 0;
-    while v < n {
+    for v in 0..rows.len() {
         Mask::row(rows, Vertex(v))
             .cut(Vertex(v))
-            .set_row(&mut found, Vertex(v));
-        v += 1;
+            .set_row(outs, Vertex(v));
     }
-    found
 }
 
 // Each of the first n rows that holds k takes row k in. The others are 0.
@@ -47,12 +41,10 @@ fn take_in(reached: &mut [u64], n: usize, k: Vertex)
     if taken.is_empty() {
         return;
     }
-    let mut u = 0;
-    while u < n {
+    for u in 0..n {
         let row = Mask::row(reached, Vertex(u));
         if row.has(k) {
             row.join(taken).set_row(reached, Vertex(u));
         }
-        u += 1;
     }
 }

@@ -2,7 +2,7 @@ use Rattle.graphs.proofs.InPlace.{closing-none, closing-past, closing-more, clos
 use Rattle.graphs.proofs.reaching.reach_rows.Goals as goal
 
 pub loop-k-init : goal.loop-k-init
-loop-k-init c = closing-none _ _ c.plain_rows-reached.ensures.0 c.plain_rows-reached.ensures.1
+loop-k-init c = closing-none _ _ c.requires c.drop_selves.ensures
 
 pub take_in-requires-clause-rest_is_zero : goal.take_in-requires-clause-rest_is_zero
 take_in-requires-clause-rest_is_zero c = closing-past _ _ _ c.loop-k.invariant

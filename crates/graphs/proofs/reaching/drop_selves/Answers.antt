@@ -1,7 +1,7 @@
 use Rattle.std.proofs.Common.{arith}
 use Rattle.graphs.proofs.Turns.{rowed-set}
 use Rattle.graphs.proofs.InPlace.{plain_at, plain-all}
-use Rattle.graphs.proofs.reaching.plain_rows.Goals as goal
+use Rattle.graphs.proofs.reaching.drop_selves.Goals as goal
 
 pub loop-v-preserved : goal.loop-v-preserved
 loop-v-preserved c = (
@@ -10,4 +10,4 @@ loop-v-preserved c = (
 )
 
 pub returns : goal.returns
-returns c = (c.loop-v.invariant.1.long, plain-all _ _ _ (omega arith) c.loop-v.invariant.1)
+returns c = plain-all _ _ _ _ c.requires.0 (omega arith) c.loop-v.invariant.1
