@@ -1,11 +1,10 @@
 -- Lists that are filled from the front, as the loops of the reader and the writer do: one element a turn, or k bytes a turn. Assumes nothing.
-use mathlib.Core.Path.{◌≡◌, refl, sym, ap, ap₂, ◌∙◌}
+use mathlib.Core.Path.{◌≡◌, sym, ap, ap₂, ◌∙◌}
 use mathlib.Core.List.{List, ◌++◌}
-use Prim.Native.Nat.{ℕ, zero, suc, ◌+◌, ◌-◌, ◌≤◌, ◌<◌}
-use native.Mathlib.Nat.{sub-zero, zero-sub, suc-sub-suc}
+use Prim.Native.Nat.{ℕ, suc, ◌+◌, ◌≤◌, ◌<◌}
 use native.Mathlib.Numerals.{add-one}
 use native.Mathlib.Omega.{arith}
-use lib.ListN.{length, get_or, take, drop, set, replicate, length-append, length-drop}
+use lib.ListN.{length, get_or, take, drop, set, length-append, length-drop}
 use lib.Seq.{paste, take_at, set_at, drop-cons, drop-drop, take-add, take-suc, take-take, take_all, append_snoc, length-take-le}
 use Rattle.blockfile.proofs.Numbers.{drop_past}
 
@@ -41,9 +40,6 @@ pub record Filled (d s : List ℕ) (n i : ℕ) (l : List ℕ) : Type 0 where
   pub inner : i ≤ n
   pub list : l ≡ filling d s i
 
-pub filled_none : (d s : List ℕ) (n : ℕ) → Filled d s n 0 d
-filled_none d s n = record { inner = omega arith; list = refl }
-
 pub filled_more : (d s l : List ℕ) (n i x : ℕ) → length s ≡ n → n ≤ length d → i < n → x ≡ get_or s i 0 → Filled d s n i l → Filled d s n (i + 1) (set l i x)
 filled_more d s l n i x e h k y f =
     record {
@@ -60,9 +56,3 @@ pub filled-all : {d s l : List ℕ} {n i : ℕ} → length s ≡ n → n ≤ i �
 filled-all {d} {s} {l} {n} {i} e h f =
     let q : i ≡ n = omega (arith, f.inner) in
     f.list ∙ ap (filling d s) q ∙ filling-all d s n e
-
--- what is left of a list of one element
-pub drop-replicate : (n m x : ℕ) → drop n (replicate m x) ≡ replicate (m - n) x
-drop-replicate zero m x = ap (λ (k : ℕ). replicate k x) (sym (sub-zero m))
-drop-replicate (suc n) zero x = ap (λ (k : ℕ). replicate k x) (sym (zero-sub (suc n)))
-drop-replicate (suc n) (suc m) x = drop-replicate n m x ∙ ap (λ (k : ℕ). replicate k x) (sym (suc-sub-suc m n))

@@ -1,6 +1,7 @@
 -- The laws of block files.
 pub mod Numbers
 pub mod Fills
+pub mod LowFirst
 pub mod Spelling
 pub mod Pieces
 pub mod Tables

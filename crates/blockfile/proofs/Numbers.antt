@@ -3,11 +3,11 @@
 use mathlib.Core.Path.{◌≡◌, refl, sym, ap, ◌∙◌, subst}
 use mathlib.Core.List.{List, [], ◌∷◌, ◌++◌, append_assoc}
 use Prim.Native.Nat.{ℕ, zero, suc, ◌+◌, ◌*◌, ◌/◌, ◌%◌, ◌^◌, ◌≤◌, ◌<◌}
-use native.Mathlib.Nat.{pow-suc, pow-succ', div-one, div-div-eq-div-mul, mul-zero, mul-suc, lt_of_lt_of_le, pow-le-pow_right}
+use native.Mathlib.Nat.{pow-suc, mul-zero, mul-suc, lt_of_lt_of_le, pow-le-pow_right}
 use native.Mathlib.Omega.{arith}
 use lib.Dec.{lit<}
 use lib.ListN.{length, get_or, take, drop, length-append, length-take, length-drop}
-use lib.Seq.{drop-cons, drop-drop, drop-append-add, take_at, drop_at, take-add, get_or-drop, length-take-le}
+use lib.Seq.{drop-drop, drop-append-add, take_at, drop_at, take-add, get_or-drop, length-take-le}
 use Rattle.blockfile.specs.Layout.{bytes, value, spelled, numbers, heading}
 
 -- ---- one number
@@ -20,13 +20,6 @@ bytes-length (suc k) x = ap suc (bytes-length k (x / 256))
 pub heading-length : (n : ℕ) → length (heading n) ≡ 6
 unfolding bytes
 heading-length n = refl
-
-pub bytes-at : (k x i : ℕ) → i < k → get_or (bytes k x) i 0 ≡ x / 256 ^ i % 256
-unfolding bytes
-bytes-at zero x i l = absurd (omega arith)
-bytes-at (suc k) x zero l = ap (λ (y : ℕ). y % 256) (sym (div-one x))
-bytes-at (suc k) x (suc i) l =
-    bytes-at k (x / 256) i (omega arith) ∙ ap (λ (y : ℕ). y % 256) (div-div-eq-div-mul x 256 (256 ^ i) ∙ ap (λ (y : ℕ). x / y) (sym (pow-succ' 256 i)))
 
 -- each is a byte
 abbrev pub Octets : List ℕ → Type 0
@@ -54,11 +47,6 @@ value-lt [] o = omega arith
 value-lt (b ∷ bs) o =
     let ih : value bs < 256 ^ length bs = value-lt bs (λ i. o (suc i)) in
     rw pow-suc (omega (arith, o 0))
-
--- one byte more in front
-pub value-more : (l : List ℕ) (at j : ℕ) → at < length l → value (take (suc j) (drop at l)) ≡ get_or l at 0 + 256 * value (take j (drop (suc at) l))
-unfolding value
-value-more l at j h = rw (drop-cons l at 0 h)
 
 -- ---- numbers one after the other
 

@@ -1,5 +1,7 @@
--- Reading what was written gives the block back, and writing what was read gives the file back byte for byte. Over the promises alone, so of any reader
+-- Answer what was written gives the block back, and writing what was read gives the file back byte for byte. Over the promises alone, so of any reader
 -- and writer that keep them: the answer that the layout's laws allow is shown, and it is the only one. Assumes nothing.
+use Rattle.std.specs.Prelude.{Ok}
+use Rattle.blockfile.specs.Promise.{Answer}
 use mathlib.Core.Path.{◌≡◌, refl, sym, ap, ap₂, ◌∙◌, subst, subst₂}
 use mathlib.Core.List.{List, ◌++◌}
 use mathlib.Core.Option.{none}
@@ -11,10 +13,6 @@ use Rattle.graphs.specs.Refusals.{first, checks}
 use Rattle.graphs.proofs.Tables.{checks-none}
 use Rattle.blockfile.specs.Layout.{layout, count, file_costs, file_rows}
 use Rattle.blockfile.specs.Promise.{read_lines, ReadPromise, WritePromise}
-use Rattle.blockfile.specs.declared.Reading.{Reading}
-use Rattle.blockfile.specs.declared.Reading.TheVariants as reading
-use Rattle.blockfile.specs.declared.Writing.{Writing}
-use Rattle.blockfile.specs.declared.Writing.TheVariants as writing
 use Rattle.blockfile.proofs.Numbers.{Octets, numbers-length}
 use Rattle.blockfile.proofs.Tables.{write-none}
 use Rattle.blockfile.proofs.Layouts.{Valid, accepted-valid, accepted-layout}
@@ -26,18 +24,18 @@ use Rattle.blockfile.proofs.Unique.{read-unique, write-unique}
 module _ (rows costs : List ℕ) (b : Valid rows costs) where
   -- where there is room the writer gives the layout
   pub write-valid : (out : List ℕ) → 6 + 12 * length rows ≤ length out
-      → WritePromise rows costs out (writing.Length (6 + 12 * length rows)) (layout costs rows ++ drop (6 + 12 * length rows) out)
+      → WritePromise rows costs out (Ok (6 + 12 * length rows)) (layout costs rows ++ drop (6 + 12 * length rows) out)
   write-valid out h =
       let passed : first (checks rows (length costs)) ≡ none = checks-none rows (length costs) (sym b.even) (omega (arith, b.few, b.even)) b.fit in
       record { refusal = sym (write-none rows (length costs) (length out) passed h); effect = (refl, refl) }
 
-  pub write-answers : (out : List ℕ) (answer : Writing) (out' : List ℕ) → 6 + 12 * length rows ≤ length out → WritePromise rows costs out answer out'
-      → (answer ≡ writing.Length (6 + 12 * length rows)) × (out' ≡ layout costs rows ++ drop (6 + 12 * length rows) out)
+  pub write-answers : (out : List ℕ) (answer : Answer) (out' : List ℕ) → 6 + 12 * length rows ≤ length out → WritePromise rows costs out answer out'
+      → (answer ≡ Ok (6 + 12 * length rows)) × (out' ≡ layout costs rows ++ drop (6 + 12 * length rows) out)
   write-answers out answer out' h p = write-unique rows costs out _ _ _ _ p (write-valid out h)
 
   -- where there is room the reader gives the block of its layout
   pub read-valid : (costs₀ rows₀ : List ℕ) → length rows ≤ length costs₀ → length rows ≤ length rows₀
-      → ReadPromise (layout costs rows) costs₀ rows₀ (reading.Block (length rows)) (costs ++ drop (length rows) costs₀) (rows ++ drop (length rows) rows₀)
+      → ReadPromise (layout costs rows) costs₀ rows₀ (Ok (length rows)) (costs ++ drop (length rows) costs₀) (rows ++ drop (length rows) rows₀)
   read-valid costs₀ rows₀ hc hr =
       record {
         refusal = sym (layout-accepted rows costs b (length costs₀) (length rows₀) hc hr);
@@ -49,15 +47,15 @@ module _ (rows costs : List ℕ) (b : Valid rows costs) where
       }
 
   -- what was written
-  pub written : (out : List ℕ) (m : ℕ) (out' : List ℕ) → WritePromise rows costs out (writing.Length m) out' → take m out' ≡ layout costs rows
+  pub written : (out : List ℕ) (m : ℕ) (out' : List ℕ) → WritePromise rows costs out (Ok m) out' → take m out' ≡ layout costs rows
   written out m out' w =
       ap (take m) w.effect.1 ∙ take_at (layout costs rows) (drop m out) m (layout-length rows costs b ∙ sym w.effect.0)
 
   -- reading what was written gives the block back
-  pub write_read : (out : List ℕ) (m : ℕ) (out' costs₀ rows₀ : List ℕ) (answer : Reading) (costs' rows' : List ℕ)
+  pub write_read : (out : List ℕ) (m : ℕ) (out' costs₀ rows₀ : List ℕ) (answer : Answer) (costs' rows' : List ℕ)
       → length rows ≤ length costs₀ → length rows ≤ length rows₀
-      → WritePromise rows costs out (writing.Length m) out' → ReadPromise (take m out') costs₀ rows₀ answer costs' rows'
-      → (answer ≡ reading.Block (length rows)) × (costs' ≡ costs ++ drop (length rows) costs₀) × (rows' ≡ rows ++ drop (length rows) rows₀)
+      → WritePromise rows costs out (Ok m) out' → ReadPromise (take m out') costs₀ rows₀ answer costs' rows'
+      → (answer ≡ Ok (length rows)) × (costs' ≡ costs ++ drop (length rows) costs₀) × (rows' ≡ rows ++ drop (length rows) rows₀)
   write_read out m out' costs₀ rows₀ answer costs' rows' hc hr w r =
       let p : ReadPromise (layout costs rows) costs₀ rows₀ answer costs' rows' =
       subst (λ (file : List ℕ). ReadPromise file costs₀ rows₀ answer costs' rows') (written out m out' w) r in
@@ -65,7 +63,7 @@ module _ (rows costs : List ℕ) (b : Valid rows costs) where
 
 -- ---- a file that was read
 
-module _ (file costs₀ rows₀ : List ℕ) (n : ℕ) (costs' rows' : List ℕ) (p : ReadPromise file costs₀ rows₀ (reading.Block n) costs' rows') where
+module _ (file costs₀ rows₀ : List ℕ) (n : ℕ) (costs' rows' : List ℕ) (p : ReadPromise file costs₀ rows₀ (Ok n) costs' rows') where
   -- the first n costs and rows are the file's
   pub read-costs : take n costs' ≡ file_costs file
   read-costs = ap (take n) p.effect.1 ∙ take_at (file_costs file) (drop n costs₀) n (numbers-length 4 (count file) (drop 6 file) ∙ sym p.effect.0)
@@ -76,8 +74,8 @@ module _ (file costs₀ rows₀ : List ℕ) (n : ℕ) (costs' rows' : List ℕ) 
       ∙ take_at (file_rows file) (drop n rows₀) n (numbers-length 8 (count file) (drop (6 + 4 * count file) file) ∙ sym p.effect.0)
 
   -- writing what was read gives the file back
-  pub read-write : (out : List ℕ) (answer : Writing) (out' : List ℕ) → Octets file → length file ≤ length out
-      → WritePromise (take n rows') (take n costs') out answer out' → (answer ≡ writing.Length (length file)) × (out' ≡ file ++ drop (length file) out)
+  pub read-write : (out : List ℕ) (answer : Answer) (out' : List ℕ) → Octets file → length file ≤ length out
+      → WritePromise (take n rows') (take n costs') out answer out' → (answer ≡ Ok (length file)) × (out' ≡ file ++ drop (length file) out)
   read-write out answer out' o h w =
       let e : first (read_lines file (length costs₀) (length rows₀)) ≡ none = sym p.refusal in
       let b : Valid (file_rows file) (file_costs file) = accepted-valid file _ _ o e in
@@ -86,4 +84,4 @@ module _ (file costs₀ rows₀ : List ℕ) (n : ℕ) (costs' rows' : List ℕ) 
       let q : WritePromise (file_rows file) (file_costs file) out answer out' =
       subst₂ (λ (rs cs : List ℕ). WritePromise rs cs out answer out') read-rows read-costs w in
       let got = write-answers (file_rows file) (file_costs file) b out answer out' (omega arith) q in
-      (got.0 ∙ ap writing.Length long, got.1 ∙ ap₂ (λ (l : List ℕ) (i : ℕ). l ++ drop i out) same long)
+      (got.0 ∙ ap Ok long, got.1 ∙ ap₂ (λ (l : List ℕ) (i : ℕ). l ++ drop i out) same long)

@@ -2,11 +2,11 @@
 use mathlib.Core.Path.{◌≡◌, sym, ap, ap₂, ◌∙◌}
 use mathlib.Core.List.{List, ◌++◌, append-nil}
 use Prim.Native.Nat.{ℕ, suc, ◌+◌, ◌*◌, ◌≤◌, ◌<◌}
-use native.Mathlib.Nat.{mul-zero, mul-suc, mul-le-mul_left}
+use native.Mathlib.Nat.{mul-suc, mul-le-mul_left}
 use native.Mathlib.Numerals.{add-one}
 use native.Mathlib.Omega.{arith}
-use lib.ListN.{length, get_or, take, drop, length-append, length-drop, drop_of_length-le}
-use lib.Seq.{paste, take_all, length-take-le}
+use lib.ListN.{length, get_or, take, drop, drop_of_length-le}
+use lib.Seq.{paste, take_all}
 use Rattle.blockfile.specs.Layout.{bytes, spelled}
 use Rattle.blockfile.proofs.Numbers.{spelled-length, spelled_at}
 use Rattle.blockfile.proofs.Fills.{filling, filling-part}
@@ -15,9 +15,6 @@ use Rattle.blockfile.proofs.Fills.{filling, filling-part}
 pub record Spelt (k : ℕ) (d xs : List ℕ) (i : ℕ) (l : List ℕ) : Type 0 where
   pub inner : i ≤ length xs
   pub list : l ≡ filling d (spelled k xs) (k * i)
-
-pub spelt-none : (k : ℕ) (d xs : List ℕ) → Spelt k d xs 0 d
-spelt-none k d xs = record { inner = omega arith; list = rw mul-zero }
 
 pub spelt-more : (k : ℕ) (d xs l l' : List ℕ) (i x : ℕ) → length d ≡ k * length xs → i < length xs → x ≡ get_or xs i 0 → Spelt k d xs i l
     → l' ≡ paste l (k * i) (bytes k x) k → Spelt k d xs (i + 1) l'
@@ -33,12 +30,6 @@ spelt-more k d xs l l' i x e h y s p =
           ∙ filling-part d (spelled k xs) (bytes k x) (k * i) k (omega arith) (omega (arith, spelled-length k xs)) b
           ∙ ap (filling d (spelled k xs)) (q ∙ ap (λ (j : ℕ). k * j) (sym (add-one i)));
     }
-
-pub spelt-length : (k : ℕ) {d xs l : List ℕ} {i : ℕ} → length d ≡ k * length xs → Spelt k d xs i l → length l ≡ length d
-spelt-length k {d} {xs} {l} {i} e s =
-    let m : k * i ≤ k * length xs = mul-le-mul_left k s.inner in
-    ap length s.list ∙ length-append (take (k * i) (spelled k xs)) (drop (k * i) d)
-    ∙ omega (arith, length-take-le (k * i) (spelled k xs) (omega (arith, spelled-length k xs)), length-drop (k * i) d)
 
 pub spelt-all : (k : ℕ) {d xs l : List ℕ} {i : ℕ} → length d ≡ k * length xs → length xs ≤ i → Spelt k d xs i l → l ≡ spelled k xs
 spelt-all k {d} {xs} {l} {i} e h s =

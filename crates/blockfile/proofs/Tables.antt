@@ -1,4 +1,5 @@
 -- The reader's and the writer's tables: which line is the first that is given, from the tests of the code, and the promises that follow. Assumes nothing.
+use Rattle.std.specs.Prelude.{Ok, Err}
 use mathlib.Core.Path.{◌≡◌, refl, sym, ap, ◌∙◌}
 use mathlib.Core.Bool.{Bool, true, false, ◌||◌}
 use mathlib.Core.List.{List, [], ◌∷◌, ◌++◌}
@@ -10,26 +11,25 @@ use lib.Dec.{ltb}
 use lib.ListN.{length, take, drop, replicate, length-drop}
 use lib.Seq.{take_at, take_all}
 use Rattle.graphs.specs.Refusals.{first, too_many, outside, checks}
-use Rattle.graphs.specs.declared.Refusal.{Refusal}
+use Rattle.graphs.specs.declared.refusal.Refusal.{Refusal}
+use Rattle.graphs.specs.declared.refusal.Refusal.TheVariants.{OtherLength, OutputTooShort}
 use Rattle.graphs.proofs.Tables.{first_off, first_rest, first-before, first-none, first_some}
 use Rattle.blockfile.specs.Layout.{numbers, count, file_costs, file_rows}
 use Rattle.blockfile.specs.Promise.{foreign, other_version, header_lines, body_lines, read_lines, write_lines, too_short, ReadPromise, WritePromise}
-use Rattle.blockfile.specs.declared.Reading.TheVariants as reading
-use Rattle.blockfile.specs.declared.Writing.TheVariants as writing
 use Rattle.blockfile.proofs.Numbers.{numbers-length}
 
 -- a refusal that is the first line given, with nothing written
 pub read-refused : (file costs rows : List ℕ) (r : Refusal) → first (read_lines file (length costs) (length rows)) ≡ some r
-    → ReadPromise file costs rows (reading.Refused r) costs rows
+    → ReadPromise file costs rows (Err r) costs rows
 read-refused file costs rows r e = record { refusal = sym e; effect = (refl, refl) }
 
 pub write-refused : (rows costs out : List ℕ) (r : Refusal) → first (write_lines rows (length costs) (length out)) ≡ some r
-    → WritePromise rows costs out (writing.Refused r) out
+    → WritePromise rows costs out (Err r) out
 write-refused rows costs out r e = record { refusal = sym e; effect = refl }
 
 -- the number 8
 abbrev pub short : Refusal
-short = record { number = 8; place = 0 }
+short = OutputTooShort
 
 first_short : (x : Bool) → x ≡ true → first (too_short x ∷ []) ≡ some short
 first_short x e = rw e
@@ -45,7 +45,7 @@ header-small file e =
     ltb-false 64 (count file) (first_off (too_many (count file)) [] e₃)
 
 -- a block that was read has at most 64 flip-flops
-pub block-small : (file costs rows : List ℕ) (n : ℕ) (costs' rows' : List ℕ) → ReadPromise file costs rows (reading.Block n) costs' rows' → n ≤ 64
+pub block-small : (file costs rows : List ℕ) (n : ℕ) (costs' rows' : List ℕ) → ReadPromise file costs rows (Ok n) costs' rows' → n ≤ 64
 block-small file costs rows n costs' rows' p =
     let lines = body_lines file (length costs) (length rows) in
     omega (arith, p.effect.0, header-small file (first-before (header_lines file) lines (sym p.refusal)))
@@ -57,7 +57,7 @@ abbrev pub lacks : List ℕ → ℕ → ℕ → Bool
 lacks file costs rows = ltb costs (count file) || ltb rows (count file)
 
 module _ (file : List ℕ) (costs rows : ℕ) (header : first (header_lines file) ≡ none) where
-  pub read-7 : (length file ≡ 6 + 12 * count file → ⊥) → first (read_lines file costs rows) ≡ some (record { number = 7; place = 0 })
+  pub read-7 : (length file ≡ 6 + 12 * count file → ⊥) → first (read_lines file costs rows) ≡ some (OtherLength)
   read-7 d = first-none (header_lines file) (body_lines file costs rows) header ∙ rw (ne_eqb _ _ d)
 
   module _ (long : length file ≡ 6 + 12 * count file) where

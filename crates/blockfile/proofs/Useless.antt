@@ -1,44 +1,40 @@
 -- The promises shut out useless versions: one that always refuses, one whose answers are one constant (also if it refuses where it likes), and one that
 -- claims an answer and leaves a lent buffer as it was. Shown at block A and at the block of no flip-flops, which the promises answer. Assumes nothing.
+use Rattle.std.specs.Prelude.{Ok, Err}
+use Rattle.blockfile.specs.Promise.{Answer}
 use mathlib.Core.Path.{◌≡◌, sym, ◌∙◌}
 use mathlib.Core.Logic.{◌⊎◌, inl, inr}
 use mathlib.Core.List.{List, [], ◌∷◌, ◌++◌}
 use Prim.Native.Nat.{ℕ}
 use native.Mathlib.Omega.{arith}
 use lib.ListN.{replicate}
-use Rattle.graphs.specs.declared.Refusal.{Refusal}
+use Rattle.graphs.specs.declared.refusal.Refusal.{Refusal}
 use Rattle.blockfile.specs.Promise.{HeaderPromise, ReadPromise, WritePromise}
-use Rattle.blockfile.specs.declared.Header.{Header}
-use Rattle.blockfile.specs.declared.Header.TheVariants as header
-use Rattle.blockfile.specs.declared.Reading.{Reading}
-use Rattle.blockfile.specs.declared.Reading.TheVariants as reading
-use Rattle.blockfile.specs.declared.Writing.{Writing}
-use Rattle.blockfile.specs.declared.Writing.TheVariants as writing
 use Rattle.blockfile.proofs.Unique.{header-unique, read-unique, write-unique}
 use Rattle.blockfile.proofs.Worked.{file_a, rows_a, costs_a, header-of-A, reading-of-A, writing-of-A}
 use Rattle.blockfile.proofs.Worked.{header-of-none, reading-of-none, writing-of-none, file_none}
 
 -- ---- a header
 
-abbrev pub KeepsHeader : (List ℕ → Header) → Type 0
+abbrev pub KeepsHeader : (List ℕ → Answer) → Type 0
 KeepsHeader f = (file : List ℕ) → HeaderPromise file (f file)
 
 -- an answer that is no refusal is n
-abbrev pub CountOr : ℕ → Header → Type 0
-CountOr n a = (a ≡ header.Count n) ⊎ ((r : Refusal) × (a ≡ header.Refused r))
+abbrev pub CountOr : ℕ → Answer → Type 0
+CountOr n a = (a ≡ Ok n) ⊎ ((r : Refusal) × (a ≡ Err r))
 
-count-answered : (n m : ℕ) (a : Header) → a ≡ header.Count m → CountOr n a → n ≡ m
+count-answered : (n m : ℕ) (a : Answer) → a ≡ Ok m → CountOr n a → n ≡ m
 count-answered n m a e (inl g) = cc
 count-answered n m a e (inr g) = absurd (let g = g.1 in let z : ◌≡◌ {A = ℕ} 0 1 = cc in omega arith)
 
-module _ (f : List ℕ → Header) (keeps : KeepsHeader f) where
-  header-A : f file_a ≡ header.Count 4
+module _ (f : List ℕ → Answer) (keeps : KeepsHeader f) where
+  header-A : f file_a ≡ Ok 4
   header-A = header-unique file_a _ _ (keeps file_a) header-of-A
 
-  header-none : f file_none ≡ header.Count 0
+  header-none : f file_none ≡ Ok 0
   header-none = header-unique file_none _ _ (keeps file_none) header-of-none
 
-  pub header-refuses : ((file : List ℕ) → (r : Refusal) × (f file ≡ header.Refused r)) → ⊥
+  pub header-refuses : ((file : List ℕ) → (r : Refusal) × (f file ≡ Err r)) → ⊥
   header-refuses h = let z = count-answered 0 4 (f file_a) header-A (inr (h file_a)) in omega arith
 
   pub header-constant : (n : ℕ) → ((file : List ℕ) → CountOr n (f file)) → ⊥
@@ -51,16 +47,16 @@ module _ (f : List ℕ → Header) (keeps : KeepsHeader f) where
 
 -- of a file, costs and rows: an answer, costs and rows
 abbrev pub Reader : Type 0
-Reader = List ℕ → List ℕ → List ℕ → Reading × List ℕ × List ℕ
+Reader = List ℕ → List ℕ → List ℕ → Answer × List ℕ × List ℕ
 
 abbrev pub KeepsRead : Reader → Type 0
 KeepsRead f = (file costs rows : List ℕ) → ReadPromise file costs rows (f file costs rows).0 (f file costs rows).1 (f file costs rows).2
 
 -- an answer that is no refusal is a block of n
-abbrev pub BlockOr : ℕ → Reading → Type 0
-BlockOr n a = (a ≡ reading.Block n) ⊎ ((r : Refusal) × (a ≡ reading.Refused r))
+abbrev pub BlockOr : ℕ → Answer → Type 0
+BlockOr n a = (a ≡ Ok n) ⊎ ((r : Refusal) × (a ≡ Err r))
 
-block-answered : (n m : ℕ) (a : Reading) → a ≡ reading.Block m → BlockOr n a → n ≡ m
+block-answered : (n m : ℕ) (a : Answer) → a ≡ Ok m → BlockOr n a → n ≡ m
 block-answered n m a e (inl g) = cc
 block-answered n m a e (inr g) = absurd (let g = g.1 in let z : ◌≡◌ {A = ℕ} 0 1 = cc in omega arith)
 
@@ -72,13 +68,13 @@ abbrev lent_rows : List ℕ
 lent_rows = 0 ∷ 0 ∷ 0 ∷ 0 ∷ 8 ∷ []
 
 module _ (f : Reader) (keeps : KeepsRead f) where
-  reader-A : let g = f file_a lent_costs lent_rows in (g.0 ≡ reading.Block 4) × (g.1 ≡ costs_a ++ 7 ∷ []) × (g.2 ≡ rows_a ++ 8 ∷ [])
+  reader-A : let g = f file_a lent_costs lent_rows in (g.0 ≡ Ok 4) × (g.1 ≡ costs_a ++ 7 ∷ []) × (g.2 ≡ rows_a ++ 8 ∷ [])
   reader-A = read-unique file_a lent_costs lent_rows _ _ _ _ _ _ (keeps file_a lent_costs lent_rows) reading-of-A
 
-  reader-none : (f file_none [] []).0 ≡ reading.Block 0
+  reader-none : (f file_none [] []).0 ≡ Ok 0
   reader-none = (read-unique file_none [] [] _ _ _ _ _ _ (keeps file_none [] []) reading-of-none).0
 
-  pub reader-refuses : ((file costs rows : List ℕ) → (r : Refusal) × ((f file costs rows).0 ≡ reading.Refused r)) → ⊥
+  pub reader-refuses : ((file costs rows : List ℕ) → (r : Refusal) × ((f file costs rows).0 ≡ Err r)) → ⊥
   reader-refuses h = let z = block-answered 0 4 _ reader-A.0 (inr (h file_a lent_costs lent_rows)) in omega arith
 
   pub reader-constant : (n : ℕ) → ((file costs rows : List ℕ) → BlockOr n (f file costs rows).0) → ⊥
@@ -97,16 +93,16 @@ module _ (f : Reader) (keeps : KeepsRead f) where
 
 -- of rows, costs and an output: an answer and the output
 abbrev pub Writer : Type 0
-Writer = List ℕ → List ℕ → List ℕ → Writing × List ℕ
+Writer = List ℕ → List ℕ → List ℕ → Answer × List ℕ
 
 abbrev pub KeepsWrite : Writer → Type 0
 KeepsWrite f = (rows costs out : List ℕ) → WritePromise rows costs out (f rows costs out).0 (f rows costs out).1
 
 -- an answer that is no refusal is the length n
-abbrev pub LengthOr : ℕ → Writing → Type 0
-LengthOr n a = (a ≡ writing.Length n) ⊎ ((r : Refusal) × (a ≡ writing.Refused r))
+abbrev pub LengthOr : ℕ → Answer → Type 0
+LengthOr n a = (a ≡ Ok n) ⊎ ((r : Refusal) × (a ≡ Err r))
 
-length-answered : (n m : ℕ) (a : Writing) → a ≡ writing.Length m → LengthOr n a → n ≡ m
+length-answered : (n m : ℕ) (a : Answer) → a ≡ Ok m → LengthOr n a → n ≡ m
 length-answered n m a e (inl g) = cc
 length-answered n m a e (inr g) = absurd (let g = g.1 in let z : ◌≡◌ {A = ℕ} 0 1 = cc in omega arith)
 
@@ -114,13 +110,13 @@ abbrev lent_out : List ℕ
 lent_out = replicate 54 0 ++ 9 ∷ []
 
 module _ (f : Writer) (keeps : KeepsWrite f) where
-  writer-A : ((f rows_a costs_a lent_out).0 ≡ writing.Length 54) × ((f rows_a costs_a lent_out).1 ≡ file_a ++ 9 ∷ [])
+  writer-A : ((f rows_a costs_a lent_out).0 ≡ Ok 54) × ((f rows_a costs_a lent_out).1 ≡ file_a ++ 9 ∷ [])
   writer-A = write-unique rows_a costs_a lent_out _ _ _ _ (keeps rows_a costs_a lent_out) writing-of-A
 
-  writer-none : (f [] [] (replicate 6 0)).0 ≡ writing.Length 6
+  writer-none : (f [] [] (replicate 6 0)).0 ≡ Ok 6
   writer-none = (write-unique [] [] (replicate 6 0) _ _ _ _ (keeps [] [] (replicate 6 0)) writing-of-none).0
 
-  pub writer-refuses : ((rows costs out : List ℕ) → (r : Refusal) × ((f rows costs out).0 ≡ writing.Refused r)) → ⊥
+  pub writer-refuses : ((rows costs out : List ℕ) → (r : Refusal) × ((f rows costs out).0 ≡ Err r)) → ⊥
   writer-refuses h = let z = length-answered 0 54 _ writer-A.0 (inr (h rows_a costs_a lent_out)) in omega arith
 
   pub writer-constant : (n : ℕ) → ((rows costs out : List ℕ) → LengthOr n (f rows costs out).0) → ⊥

@@ -1,5 +1,6 @@
 -- Block A as a file, byte for byte, and an input for each refusal of the reader and the writer, with its number and place; of two refusals that apply,
 -- the one that comes first. All by computation. Assumes nothing.
+use Rattle.std.specs.Prelude.{Ok}
 use mathlib.Core.Path.{◌≡◌, refl}
 use mathlib.Core.List.{List, [], ◌∷◌, ◌++◌}
 use mathlib.Core.Option.{Option, none, some}
@@ -7,16 +8,14 @@ use Prim.Native.Nat.{ℕ}
 use lib.ListN.{length, take, set, replicate}
 use Rattle.masks.specs.Sets.{lowest}
 use Rattle.graphs.specs.Refusals.{first}
-use Rattle.graphs.specs.declared.Refusal.{Refusal}
+use Rattle.graphs.specs.declared.refusal.Refusal.{Refusal}
+use Rattle.graphs.proofs.Tables.{refusal_at}
 use Rattle.blockfile.specs.Layout.{bytes, value, spelled, numbers, layout, version, count, file_costs, file_rows}
 use Rattle.blockfile.specs.Promise.{read_lines, write_lines, HeaderPromise, ReadPromise, WritePromise}
-use Rattle.blockfile.specs.declared.Header.TheVariants as header
-use Rattle.blockfile.specs.declared.Reading.TheVariants as reading
-use Rattle.blockfile.specs.declared.Writing.TheVariants as writing
 
 -- a refusal by its number and place
 abbrev pub refused : ℕ → ℕ → Option Refusal
-refused number place = some (record { number = number; place = place })
+refused number place = some (refusal_at number place)
 
 -- ---- block A: edges 0>1, 1>2, 2>0, 2>3, 3>1, costs 1, 5, 5, 1
 
@@ -58,15 +57,15 @@ unfolding lowest
 write-A = refl
 
 -- so the promises have one answer for it, and what follows in a longer buffer stays
-pub header-of-A : HeaderPromise file_a (header.Count 4)
+pub header-of-A : HeaderPromise file_a (Ok 4)
 unfolding value
 header-of-A = record { refusal = refl; value = refl }
 
-pub reading-of-A : ReadPromise file_a (0 ∷ 0 ∷ 0 ∷ 0 ∷ 7 ∷ []) (0 ∷ 0 ∷ 0 ∷ 0 ∷ 8 ∷ []) (reading.Block 4) (costs_a ++ 7 ∷ []) (rows_a ++ 8 ∷ [])
+pub reading-of-A : ReadPromise file_a (0 ∷ 0 ∷ 0 ∷ 0 ∷ 7 ∷ []) (0 ∷ 0 ∷ 0 ∷ 0 ∷ 8 ∷ []) (Ok 4) (costs_a ++ 7 ∷ []) (rows_a ++ 8 ∷ [])
 unfolding value numbers lowest
 reading-of-A = record { refusal = refl; effect = (refl, refl, refl) }
 
-pub writing-of-A : WritePromise rows_a costs_a (replicate 54 0 ++ 9 ∷ []) (writing.Length 54) (file_a ++ 9 ∷ [])
+pub writing-of-A : WritePromise rows_a costs_a (replicate 54 0 ++ 9 ∷ []) (Ok 54) (file_a ++ 9 ∷ [])
 unfolding bytes spelled lowest
 writing-of-A = record { refusal = refl; effect = (refl, refl) }
 
@@ -78,15 +77,15 @@ pub layout-none : layout [] [] ≡ file_none
 unfolding bytes spelled
 layout-none = refl
 
-pub header-of-none : HeaderPromise file_none (header.Count 0)
+pub header-of-none : HeaderPromise file_none (Ok 0)
 unfolding value
 header-of-none = record { refusal = refl; value = refl }
 
-pub reading-of-none : ReadPromise file_none [] [] (reading.Block 0) [] []
+pub reading-of-none : ReadPromise file_none [] [] (Ok 0) [] []
 unfolding value numbers lowest
 reading-of-none = record { refusal = refl; effect = (refl, refl, refl) }
 
-pub writing-of-none : WritePromise [] [] (replicate 6 0) (writing.Length 6) file_none
+pub writing-of-none : WritePromise [] [] (replicate 6 0) (Ok 6) file_none
 unfolding bytes spelled lowest
 writing-of-none = record { refusal = refl; effect = (refl, refl) }
 
