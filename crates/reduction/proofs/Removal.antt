@@ -8,7 +8,7 @@ use native.Mathlib.Omega.{arith}
 use lib.Dec.{T, eqb}
 use Rattle.masks.specs.Sets.{bit, put, cut}
 use Rattle.masks.proofs.Tests.{and_T, T_and, T-left, ne-T, T-ne}
-use Rattle.masks.proofs.Members.{put-new, put_same, put_other, put-lt, put-cut, cut-same, cut-other, cut-lt}
+use Rattle.masks.proofs.PutCut.{put-new, put_same, put_other, put-lt, put-cut, cut-same, cut-other, cut-lt}
 use Rattle.masks.proofs.Weights.{weight-new}
 use Rattle.graphs.specs.Graph.{Walk, edge_to, step_to}
 use Rattle.graphs.specs.Light.{left, Lighter}

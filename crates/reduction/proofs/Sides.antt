@@ -15,7 +15,7 @@ use lib.Seq.{get_or-set_same, get_or-set_other, ext_get_or}
 use Rattle.masks.specs.Sets.{pick, bit, put, cut, those}
 use Rattle.masks.proofs.Tests.{T_false}
 use Rattle.masks.proofs.Bits.{bit-ext, bit-zero, bit_high}
-use Rattle.masks.proofs.Members.{put-kept, put-new, cut-gone}
+use Rattle.masks.proofs.PutCut.{put-kept, put-new, cut-gone}
 use Rattle.masks.proofs.Those.{those-lt, those-in, those-out, members-lt}
 use Rattle.graphs.proofs.Loops.{row_from}
 use Rattle.graphs.proofs.Lists.{set-zero}
@@ -41,10 +41,10 @@ module _ (outs ins' : List ℕ) (b : Beside outs ins') where
       bit-ext (length outs) (get_or ins' v 0) (ins (edges outs) v) (ins-fit v) (those-lt (length outs) (λ u. bit (get_or outs u 0) v))
       (λ u l. b.mirrored u v ∙ sym (those-in (length outs) (λ a. bit (get_or outs a 0) v) u l))
 
-  -- the test of a rule, made on the two rows
-  pub suits-applies : (rule : Rule) (c : ℕ → ℕ) (live n out within v : ℕ) (x : Bool) → n ≡ length outs → out ≡ get_or outs v 0 → within ≡ get_or ins' v 0
-      → x ≡ (bit live v && asks rule c n out within v) → applies rule c (block live 0 outs) v ≡ x
-  suits-applies rule c live n out within v x e f g h = sym (h ∙ rw (e, f, g ∙ ins-is v))
+  -- what a rule asks of a live flip-flop, told of its two rows
+  pub asks-applies : (rule this : Rule) (c : ℕ → ℕ) (live forced v : ℕ) (x : Bool) → rule ≡ this → bit live v ≡ true
+      → x ≡ asks this c (length outs) (get_or outs v 0) (get_or ins' v 0) v → x ≡ applies rule c (block live forced outs) v
+  asks-applies rule this c live forced v x e l h = rw (l, e, ← ins-is v) h
 
 -- ---- the in-rows are made
 

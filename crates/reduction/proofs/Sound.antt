@@ -12,7 +12,7 @@ use lib.Dec.{T}
 use lib.ListN.{length, get_or}
 use Rattle.masks.specs.Sets.{bit, put, cut}
 use Rattle.masks.proofs.Bits.{bit-ext, bit-or, full-bit, bit-lt}
-use Rattle.masks.proofs.Members.{put_same, put_other, put-lt, cut_keeps, cut-from}
+use Rattle.masks.proofs.PutCut.{put_same, put_other, put-lt, cut_keeps, cut-from}
 use Rattle.graphs.specs.Graph.{edge}
 use Rattle.graphs.specs.Light.{Lightest}
 use Rattle.graphs.proofs.Loops.{RowsFit, edge-plain}

@@ -13,7 +13,7 @@ use lib.Seq.{get_or-set_same, get_or-set_other}
 use borrow.Author.Tests.{eq-eqb, ne_eqb}
 use Rattle.masks.specs.Sets.{bit, pick, put, cut}
 use Rattle.masks.proofs.Bits.{bit-zero, bit-or, full-bit, bit-lt}
-use Rattle.masks.proofs.Members.{put_same, put_other, put-lt, cut-gone, cut-same, cut-other, cut-lt, cut_keeps, cut-from}
+use Rattle.masks.proofs.PutCut.{put_same, put_other, put-lt, cut-gone, cut-same, cut-other, cut-lt, cut_keeps, cut-from}
 use Rattle.graphs.specs.Graph.{plain}
 use Rattle.graphs.proofs.Walks.{flip}
 use Rattle.graphs.proofs.Loops.{RowsFit, rows-lt, row_from, row-to-lt, plain-length, plain_fits}

@@ -1,29 +1,27 @@
 -- Blocks whose answer is computed: block A, the two flip-flops that point at each other, no flip-flop, and a refusal of each number. Assumes nothing.
 use mathlib.Core.Path.{◌≡◌, refl}
 use mathlib.Core.List.{List, [], ◌∷◌}
-use mathlib.Core.Option.{Option, none, some}
+use Rattle.std.specs.Prelude.{Result, Ok, Err}
 use Prim.Native.Nat.{ℕ}
 use lib.Count.{ones}
 use lib.ListN.{replicate}
 use Rattle.masks.specs.Sets.{bit, put, cut, those, lowest}
 use Rattle.graphs.specs.Graph.{plain_from}
-use Rattle.graphs.specs.declared.Refusal.{Refusal}
+use Rattle.graphs.specs.declared.refusal.Refusal.{Refusal}
+use Rattle.graphs.specs.declared.refusal.Refusal.TheVariants.{TooManyRows, UnequalCosts, RowOutside}
 use Rattle.reduction.specs.declared.Step.{Step}
 use Rattle.reduction.specs.declared.Reduced.{Reduced}
 use Rattle.reduction.specs.declared.Done.TheVariants.{Forced, Dropped, Folded}
 use Rattle.reduction.specs.Rules.{next, run, recorded}
-use Rattle.reduction.specs.Promise.{outcome}
 use Rattle.reduction.proofs.Model.{answer, reduce_model}
 
 -- an answer where nothing is refused: live and forced set, rows, steps
-abbrev pub answered : ℕ → ℕ → List ℕ → List Step → Reduced
-answered live forced rows steps = answer none (record { left = record { live = live; forced = forced; rows = rows }; steps = steps })
+abbrev pub answered : ℕ → ℕ → List ℕ → List Step → Result Reduced Refusal
+answered live forced rows steps = Ok (answer (record { left = record { live = live; forced = forced; rows = rows }; steps = steps }))
 
--- a refusal by its number and place
-abbrev pub refused : ℕ → ℕ → Reduced
-refused number place =
-    let r : Option Refusal = some (record { number = number; place = place }) in
-    answer r (outcome r [] [] 0)
+-- a refusal
+abbrev pub refused : Refusal → Result Reduced Refusal
+refused r = Err r
 
 -- block A: "The one step folds 2 into 1"
 pub block-A : reduce_model (2 ∷ 4 ∷ 9 ∷ 2 ∷ []) (1 ∷ 5 ∷ 5 ∷ 1 ∷ []) 64 ≡ answered 11 0 (2 ∷ 9 ∷ 0 ∷ 2 ∷ []) (recorded 2 (Folded (record { 0 = 1 })) ∷ [])
@@ -68,14 +66,14 @@ unfolding reduce_model run next lowest those bit put cut plain_from ones
 empty = refl
 
 -- refusals: 65 rows; two rows and one cost; row 1 of two rows with the bit 2
-pub refusal-1 : reduce_model (replicate 65 0) [] 64 ≡ refused 1 0
+pub refusal-1 : reduce_model (replicate 65 0) [] 64 ≡ refused TooManyRows
 unfolding reduce_model run next lowest those bit put cut plain_from ones
 refusal-1 = refl
 
-pub refusal-2 : reduce_model (2 ∷ 1 ∷ []) (5 ∷ []) 64 ≡ refused 2 0
+pub refusal-2 : reduce_model (2 ∷ 1 ∷ []) (5 ∷ []) 64 ≡ refused UnequalCosts
 unfolding reduce_model run next lowest those bit put cut plain_from ones
 refusal-2 = refl
 
-pub refusal-3 : reduce_model (2 ∷ 5 ∷ []) (5 ∷ 5 ∷ []) 64 ≡ refused 3 1
+pub refusal-3 : reduce_model (2 ∷ 5 ∷ []) (5 ∷ 5 ∷ []) 64 ≡ refused (RowOutside 1)
 unfolding reduce_model run next lowest those bit put cut plain_from ones
 refusal-3 = refl

@@ -1,3 +1,4 @@
 pub mod Rules
 pub mod Promise
 pub mod Work
+pub mod Blocks

@@ -1,21 +1,16 @@
 -- What the contracts of private functions say of the rows as the code keeps them and of the answers of its parts: no part of document 01.
 -- Assumes nothing.
-use Rattle.std.specs.Prelude.{◌≡◌, ◌≢◌, Bool, ◌&&◌, ◌||◌, List, ℕ, ◌≤◌, ◌<◌, eqb, length, get_or}
+use Rattle.std.specs.Prelude.{◌≡◌, ◌≢◌, Bool, ◌&&◌, ◌||◌, List, ℕ, ◌≤◌, ◌<◌, eqb, length, get_or, MatchOption, Option}
 use Rattle.std.proofs.Math.Option.{none, some}
 use Rattle.std.specs.Int.Count.{ones}
-use denote.Ref.{at_last}
 use Rattle.masks.specs.Sets.{bit, put, cut, lowest, number}
+use Rattle.masks.specs.declared.Vertex.{Vertex}
 use Rattle.reduction.specs.declared.Done.{Done}
 use Rattle.reduction.specs.declared.Done.TheVariants.{Forced, Dropped, Folded}
-use Rattle.reduction.specs.declared.Turn.{Turn}
-use Rattle.reduction.specs.declared.Turn.TheVariants.{Made, Ended}
+use Rattle.reduction.specs.declared.Step.{Step}
 use Rattle.reduction.specs.declared.Log.{Log}
-use Rattle.reduction.specs.declared.block.Block.{Block}
-use Rattle.reduction.specs.declared.block.Change.{Change}
 use Rattle.reduction.specs.declared.rules.Rule.{Rule}
 use Rattle.reduction.specs.declared.rules.Rule.TheVariants.{Looped, Loose, OneIn, OneOut}
-use Rattle.reduction.specs.declared.rules.Choice.{Choice}
-use Rattle.reduction.specs.declared.rules.Choice.TheVariants.{Use, Nothing}
 use Rattle.reduction.specs.Rules.{State, outs, ins, sole, beats, remove, fold_in, fold_out, Move, recorded, next, Run}
 use Rattle.reduction.specs.Promise.{filled, blank}
 
@@ -84,10 +79,20 @@ Usable OneOut rows v = Foldable (length rows) (outs (edges rows) v) v
 
 -- ---- the answers
 
+-- the lowest flip-flop that a rule applies to, or that there is none
+abbrev pub FirstFor : Rule → (ℕ → ℕ) → State → Option Vertex → Type 0
+FirstFor rule c s r =
+    let v = lowest (length s.rows) (applies rule c s) in
+    MatchOption r (length s.rows ≤ v) (λ u. (u.0 < length s.rows) × (u.0 ≡ v))
+
 -- a rule and a flip-flop whose move is the next one, or there is none
-abbrev pub Chosen : (ℕ → ℕ) → State → Choice → Type 0
-Chosen c s (Use rule v) = (v.0 < length s.rows) × Usable rule s.rows v.0 × (next c s ≡ some (move_by rule s v.0))
-Chosen c s Nothing = next c s ≡ none
+pub record Chooses (c : ℕ → ℕ) (s : State) (rule : Rule) (v : ℕ) : Type 0 where
+  pub within : v < length s.rows
+  pub usable : Usable rule s.rows v
+  pub moves : next c s ≡ some (move_by rule s v)
+
+abbrev pub Chosen : (ℕ → ℕ) → State → Option (Rule × Vertex) → Type 0
+Chosen c s r = MatchOption r (next c s ≡ none) (λ p. Chooses c s p.0 p.1.0)
 
 -- v was folded into its one in-neighbour u
 pub record FoldedInto (outs ins : List ℕ) (v u : ℕ) (outs' ins' : List ℕ) : Type 0 where
@@ -96,41 +101,16 @@ pub record FoldedInto (outs ins : List ℕ) (v u : ℕ) (outs' ins' : List ℕ) 
   pub leads : ins' ≡ (fold_out u v (edges ins)).rows
   pub beside : Beside outs' ins'
 
--- what using a rule on v asks of the rows
-abbrev pub Lent : Rule → List ℕ → List ℕ → ℕ → Type 0
-Lent rule outs ins v = Beside outs ins × (v < length outs) × Usable rule outs v
-
--- a rule was used on v, in the block s
-pub record Performed (rule : Rule) (s : State) (v : ℕ) (change : Change) (outs ins : List ℕ) : Type 0 where
-  pub live : number change.live ≡ cut s.live v
-  pub forced : number change.forced ≡ forced_by rule s.forced v
-  pub done : change.done ≡ done_by rule s.rows v
-  pub rows : outs ≡ rows_by rule s.rows v
-  pub beside : Beside outs ins
-
--- the record after a change: the rows that it holds are the same ones, at their last values
-abbrev pub changed : Block → Change → List ℕ → List ℕ → Block
-changed b change outs ins = record { live = change.live; forced = change.forced; outs = at_last b.outs outs; ins = at_last b.ins ins }
-
--- a rule was used on v, in the record b, which is b' afterwards
-pub record Used (rule : Rule) (b : Block) (v : ℕ) (told : Done) (b' : Block) : Type 0 where
-  pub change : Change
-  pub outs : List ℕ
-  pub ins : List ℕ
-  pub tells : told ≡ change.done
-  pub whole : b' ≡ changed b change outs ins
-  pub outs_long : length outs ≡ length b.outs.now
-  pub ins_long : length ins ≡ length b.ins.now
-  pub performed : Performed rule (block (number b.live) (number b.forced) b.outs.now) v change outs ins
+-- a rule was used on v, in the block s, which is s' afterwards
+pub record Performed (rule : Rule) (s : State) (v : ℕ) (told : Done) (s' : State) : Type 0 where
+  pub done : told ≡ done_by rule s.rows v
+  pub live : s'.live ≡ cut s.live v
+  pub forced : s'.forced ≡ forced_by rule s.forced v
+  pub rows : s'.rows ≡ rows_by rule s.rows v
 
 -- the next move was made, or there is none and nothing changed
-abbrev pub Moved : (ℕ → ℕ) → State → Turn → List ℕ → Type 0
-Moved c s (Made live forced step) rows = next c s ≡ some (record { after = block (number live) (number forced) rows; step = step })
-Moved c s Ended rows = (next c s ≡ none) × (rows ≡ s.rows)
-
-pub record Advanced (c : ℕ → ℕ) (s : State) (turn : Turn) (outs ins : List ℕ) : Type 0 where
-  pub moved : Moved c s turn outs
-  pub beside : Beside outs ins
+abbrev pub Advanced : (ℕ → ℕ) → State → Option Step → State → Type 0
+Advanced c s r s' = MatchOption r ((next c s ≡ none) × (s' ≡ s)) (λ step. next c s ≡ some (record { after = s'; step = step }))
 
 -- a run was made
 pub record Logged (whole : Run) (log : Log) (outs : List ℕ) : Type 0 where

@@ -1,26 +1,24 @@
 // The reduction: its steps, and the operation.
 #![tactic(auto)]
 
-mod block;
 mod edges;
 mod rules;
+mod state;
 
-ghost use Rattle.std.specs.Prelude.{◌≡◌, [], ◌-◌, ◌^◌, ◌≤◌, ◌<◌, ltb, length};
-ghost use Rattle.std.proofs.Math.Option.{some};
-ghost use Rattle.masks.specs.Sets.{pick, number};
+ghost use Rattle.std.specs.Prelude.{◌≡◌, ◌-◌, ◌^◌, ◌≤◌, length};
+ghost use Rattle.masks.specs.Sets.{number};
 ghost use Rattle.graphs.specs.Graph.{cost_of};
-ghost use Rattle.reduction.specs.Rules.{run};
-ghost use Rattle.reduction.specs.Promise.{blank, outcome, Returned, ReducePromise};
-ghost use Rattle.reduction.specs.Work.{Beside, block, Advanced, Logged};
+ghost use Rattle.reduction.specs.Rules.{run, start};
+ghost use Rattle.reduction.specs.Promise.{Returned, ReducePromise};
+ghost use Rattle.reduction.specs.Work.{Beside, block, Logged};
 
-use block::perform;
-use edges::{drop_selves, in_rows};
-use graphs::{Checked, Refusal};
+use edges::in_rows;
+use graphs::{Block, Refusal, drop_selves};
 use masks::{Mask, Vertex};
-use rules::{Choice, choose};
+use state::State;
 
 // What was done with a flip-flop.
-#[derive(Clone, Copy)]
+#[derive(Clone, Copy, Debug, PartialEq, Eq)]
 pub enum Done {
     Forced,
     Dropped,
@@ -28,16 +26,24 @@ pub enum Done {
 }
 
 // A step of the reduction, as it is recorded.
-#[derive(Clone, Copy)]
+#[derive(Clone, Copy, Debug, PartialEq, Eq)]
 pub struct Step {
     pub vertex: Vertex,
     pub done: Done,
 }
 
-// The whole answer. The refusal is number 0 at place 0 where there is none.
-#[derive(Clone, Copy)]
+impl Step {
+    // What stands past the last step.
+    const BLANK: Step = Step {
+        vertex: Vertex(0),
+        done: Done::Dropped,
+    };
+}
+
+// The whole answer: how many steps, the steps, and the sets and the rows that are left. The arrays are of 64, since nothing is allocated, and places past
+// the last step hold `Step::BLANK`, as a caller in C is promised.
+#[derive(Clone, Copy, Debug, PartialEq, Eq)]
 pub struct Reduced {
-    pub refusal: Refusal,
     pub count: usize,
     pub steps: [Step; 64],
     pub forced: Mask,
@@ -45,14 +51,7 @@ pub struct Reduced {
     pub rows: [u64; 64],
 }
 
-// One turn: live and forced set after a step, and the step; or no rule applies.
-#[derive(Drop)]
-enum Turn {
-    Made(Mask, Mask, Step),
-    Ended,
-}
-
-// The steps that were made, and the sets that are left.
+// The steps that were made, and the sets that are left: an answer without its rows, which stay where they are lent.
 #[derive(Drop)]
 struct Log {
     count: usize,
@@ -62,114 +61,65 @@ struct Log {
 }
 
 // The four rules, one at a time, up to the limit.
-pub fn reduce(rows: &[u64], costs: &[u32], limit: u64) -> Reduced
+pub fn reduce(rows: &[u64], costs: &[u32], limit: u64) -> Result<Reduced, Refusal>
     ensures { ReducePromise rows.now costs.now limit result }
 {
-    let checked = graphs::check(rows, costs.len());
-    if let Checked::Refused(refusal) = checked {
-        return refused(refusal);
-    }
-    let n = rows.len();
+    let block = Block::new(rows, costs)?;
+    Ok(reduce_block(block, limit))
+}
+
+// The same for a block that passed the checks.
+fn reduce_block(block: Block, limit: u64) -> Reduced
+    ensures { Returned (run (cost_of block.entry.costs.now) limit (start block.entry.graph.rows.now)) result }
+{
+    let n = block.graph.len();
     let mut outs = [0u64; 64];
     let mut ins = [0u64; 64];
-    drop_selves(rows, &mut outs[..n]);
+    drop_selves(block.graph.rows, &mut outs[..n]);
     in_rows(&outs[..n], &mut ins[..n]);
-    let log = run(&mut outs[..n], &mut ins[..n], costs, at_most(limit, n));
+    // No more steps than there are flip-flops: a limit of their number or more is full reduction.
+    let most = limit.min(n as u64) as usize;
+    let log = run(&mut outs[..n], &mut ins[..n], block.costs, most);
     let steps = log.steps;
-    let forced = log.forced;
-    let live = log.live;
     Reduced {
-        refusal: Refusal {
-            number: 0,
-            place: 0,
-        },
         count: log.count,
         steps,
-        forced,
-        live,
+        forced: log.forced,
+        live: log.live,
         rows: outs,
     }
 }
 
-// The answer after a refusal.
-fn refused(refusal: Refusal) -> Reduced
-    ensures { Returned (some refusal) (outcome (some refusal) [] [] 0) result }
-{
-    Reduced {
-        refusal,
-        count: 0,
-        steps: [blank(); 64],
-        forced: Mask::none(),
-        live: Mask::none(),
-        rows: [0u64; 64],
-    }
-}
-
-// What stands past the last step.
-fn blank() -> Step
-    ensures { result ≡ blank }
-{
-    Step {
-        vertex: Vertex(0),
-        done: Done::Dropped,
-    }
-}
-
-// No more steps than there are flip-flops.
-fn at_most(limit: u64, n: usize) -> usize
-    ensures { result ≡ pick (ltb limit n) limit n }
-{
-    if limit < n as u64 {
-        return limit as usize;
-    }
-    n
-}
-
 // Up to so many steps.
 fn run(outs: &mut [u64], ins: &mut [u64], costs: &[u32], most: usize) -> Log
-    requires { Beside outs.old ins.old × (length costs.now ≡ length outs.old) × (most ≤ 64) }
-    ensures { Logged (run (cost_of costs.now) most (block (2 ^ length outs.old - 1) 0 outs.old)) result
-        outs.new }
+    requires beside { Beside outs.old ins.old }
+    requires even { length costs.now ≡ length outs.old }
+    requires few { most ≤ 64 }
+    ensures { Logged (run (cost_of costs.now) most (block (2 ^ length outs.old - 1) 0 outs.old)) result outs.new }
 {
-    let mut live = Mask::below(outs.len());
-    let mut forced = Mask::none();
-    let mut steps = [blank(); 64];
-    let mut count = 0;
-    while count < most {
-        let turn = advance(outs, ins, live, forced, costs);
-        let Turn::Made(still, more, step) = turn else {
+    let mut steps = [Step::BLANK; 64];
+    let state = &mut State {
+        live: Mask::below(outs.len()),
+        forced: Mask::none(),
+        outs,
+        ins,
+        costs,
+    };
+    for count in 0..most {
+        let Some(step) = state.step() else {
             return Log {
                 count,
                 steps,
-                forced,
-                live,
+                forced: state.forced,
+                live: state.live,
             };
         };
-        live = still;
-        forced = more;
         steps[count] = step;
-        count += 1;
     }
     Log {
-        count,
+        count: most,
         steps,
-        forced,
-        live,
+        forced: state.forced,
+        live: state.live,
     }
-}
-
-// One step, if a rule applies.
-fn advance(outs: &mut [u64], ins: &mut [u64], live: Mask, forced: Mask, costs: &[u32]) -> Turn
-    requires { Beside outs.old ins.old × (length costs.now ≡ length outs.old) }
-    ensures { Advanced (cost_of costs.now) (block (number live) (number forced) outs.old) result outs.new ins.new }
-{
-    let choice = choose(live, outs, ins, costs);
-    let Choice::Use(rule, v) = choice else {
-        return Turn::Ended;
-    };
-    let change = perform(rule, v, live, forced, outs, ins);
-    let still = change.live;
-    let more = change.forced;
-    let done = change.done;
-    Turn::Made(still, more, Step { vertex: v, done })
 }

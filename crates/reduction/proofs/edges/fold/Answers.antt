@@ -7,20 +7,23 @@ use Rattle.reduction.proofs.edges.fold.Goals as goal
 
 pub gain-requires : goal.gain-requires
 gain-requires c =
-    let r = ready _ _ c.requires.0 _ _ _ c.requires.2 c.row.ensures c.next_member.ensures in
-    (r.within, c.requires.1, c.requires.0.few, r.other, r.only)
+    let r = ready _ _ c.requires.beside _ _ _ c.requires.foldable c.row.ensures _ c.lowest.ensures c.unwrap-u.ensures in
+    record { within = (r.within, c.requires.within); few = c.requires.beside.few; other = r.other; only = r.only }
 
 pub lead-requires : goal.lead-requires
 lead-requires c =
-    let r = ready _ _ c.requires.0 _ _ _ c.requires.2 c.row.ensures c.next_member.ensures in
-    (omega (arith, c.requires.0.even, r.within), omega arith, omega arith)
+    let r = ready _ _ c.requires.beside _ _ _ c.requires.foldable c.row.ensures _ c.lowest.ensures c.unwrap-u.ensures in
+    record {
+      within = (omega (arith, c.requires.beside.even, r.within), omega (arith, c.requires.beside.even, c.requires.within));
+      few = omega (arith, c.requires.beside.even, c.requires.beside.few);
+    }
 
 pub returns : goal.returns
 returns c =
-    let r = ready _ _ c.requires.0 _ _ _ c.requires.2 c.row.ensures c.next_member.ensures in
+    let r = ready _ _ c.requires.beside _ _ _ c.requires.foldable c.row.ensures _ c.lowest.ensures c.unwrap-u.ensures in
     record {
-      into = found-is _ _ c.requires.0 _ _ _ c.requires.2 c.row.ensures c.next_member.ensures;
+      into = found-is _ _ c.requires.beside _ _ _ c.requires.foldable c.row.ensures _ c.lowest.ensures c.unwrap-u.ensures;
       gains = c.gain.ensures;
       leads = c.lead.ensures;
-      beside = subst₂ Beside (sym c.gain.ensures) (sym c.lead.ensures) (fold-beside _ _ c.requires.0 c.next_member.result c.args.v.0 r.within);
+      beside = subst₂ Beside (sym c.gain.ensures) (sym c.lead.ensures) (fold-beside _ _ c.requires.beside _ c.args.v.0 r.within);
     }

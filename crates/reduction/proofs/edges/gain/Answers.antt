@@ -7,6 +7,6 @@ use Rattle.reduction.proofs.edges.gain.Goals as goal
 
 pub returns : goal.returns
 returns c =
-    let made = c.gained.ensures ∙ ap₂ (λ x y. cut (bit_or x y) c.args.v.0) c.row.ensures c.row-2.ensures in
-    ap (λ xs. slice_set xs c.args.v.0 0) c.set_row.ensures
-    ∙ gain-is c.args.rows.now c.args.u.0 c.args.v.0 _ c.requires.0 c.requires.3 c.requires.4 made
+    let v = c.args.v.0 in
+    let made = c.cut.ensures ∙ ap (λ m. cut m v) (c.join.ensures ∙ ap₂ bit_or c.row.ensures c.row-2.ensures) in
+    ap (λ xs. slice_set xs v 0) c.set_row.ensures ∙ gain-is c.args.rows.now c.args.u.0 v _ c.requires.within.0 c.requires.other c.requires.only made

@@ -6,4 +6,4 @@ use Rattle.reduction.proofs.edges.in_rows.Goals as goal
 pub returns : goal.returns
 returns c =
     let inv = c.loop-v.invariant in
-    beside-made _ _ (inv.long ∙ c.requires.0) c.requires.1 c.requires.2 (λ v l. inv.new v (omega arith))
+    beside-made _ _ (inv.long ∙ c.requires.even) c.requires.few c.requires.fit (λ v l. inv.done v (omega arith))

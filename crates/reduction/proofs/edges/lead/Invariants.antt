@@ -1,11 +1,9 @@
 -- In the rows passed u stands where v stood.
-use Rattle.std.proofs.Common.{length, ◌-◌, get_or}
+use Rattle.std.proofs.Common.{get_or}
+use Rattle.graphs.proofs.Turns.{Rowed}
 use Rattle.reduction.proofs.Sides.{leads}
-use Rattle.reduction.proofs.Stores.{Stored}
+use Rattle.reduction.proofs.Stores.{Wanted}
 use Rattle.reduction.proofs.edges.lead.Given as goal
 
-abbrev pub invariant-loop-w : goal.invariant-loop-w
-invariant-loop-w l = Stored (λ k. leads l.u.0 l.v.0 (get_or l.initial.rows k 0)) l.initial.rows l.w l.rows
-
-abbrev pub decreases-loop-w : goal.decreases-loop-w
-decreases-loop-w l = length l.initial.rows - l.w
+abbrev pub invariant-loop-row : goal.invariant-loop-row
+invariant-loop-row l = Rowed (Wanted (λ k. leads l.u.0 l.v.0 (get_or l.fn.rows k 0))) l.fn.rows l.row-index l.rows

@@ -1,4 +1,4 @@
--- The set has one member, found among 64.
+-- The set has one member.
 use Rattle.std.proofs.Common.{◌≡◌, ◌<◌, ℕ, ◌∙◌, sym, subst, length}
 use Rattle.std.specs.Int.Count.{ones}
 use Rattle.masks.specs.Sets.{number}
@@ -10,11 +10,10 @@ use Rattle.reduction.proofs.rules.folds.Goals as goal
 pub cheaper-requires : goal.cheaper-requires
 cheaper-requires c =
     let single : ones (number c.args.side) ≡ 1 = sym c.count.ensures ∙ c.if-count-ne1.false in
-    let found = c.next_member.ensures ∙ one_found _ _ c.requires.1 c.requires.2 single in
-    (subst (λ (u : ℕ). u < length c.args.costs.now) (sym found) (one-member _ _ c.requires.1 single).0, c.requires.0)
+    let found = one_found _ _ _ _ c.requires.fits single c.in-Some.ensures in
+    (subst (λ (u : ℕ). u < length c.args.costs.now) (sym found) (one-member _ _ c.requires.fits single).0, c.requires.within)
 
-pub returns : goal.returns
-returns c =
+pub returns-in-Some : goal.returns-in-Some
+returns-in-Some c =
     let single : ones (number c.args.side) ≡ 1 = sym c.count.ensures ∙ c.if-count-ne1.false in
-    let found = c.next_member.ensures ∙ one_found _ _ c.requires.1 c.requires.2 single in
-    is_one (cost_of c.args.costs.now) (length c.args.costs.now) (number c.args.side) c.args.v.0 _ _ single found c.cheaper.ensures
+    is_one (cost_of c.args.costs.now) _ _ c.args.v.0 _ _ single (one_found _ _ _ _ c.requires.fits single c.in-Some.ensures) c.cheaper.ensures
