@@ -1,39 +1,16 @@
--- Rooms that are cleared or counted word by word, and the node room of which the first words are cleared. Assumes nothing.
-use mathlib.Core.Path.{◌≡◌, refl, sym, ap, ap₂, subst, ◌∙◌}
+-- The length of a room that is cleared, the words in use as they are counted, and the node room of which the first words are cleared. Assumes nothing.
+use mathlib.Core.Path.{◌≡◌, refl, sym, ap, ap₂, ◌∙◌}
 use mathlib.Core.Logic.{◌≢◌, ◌⊎◌, inl, inr, ⊎_elim}
 use mathlib.Core.List.{List, [], ◌∷◌, ◌++◌}
 use Prim.Native.Nat.{ℕ, zero, suc, ◌+◌, ◌≤◌, ◌<◌, min}
 use native.Mathlib.Omega.{arith}
 use native.Mathlib.Numerals.{add-one}
-use lib.ListN.{length, get_or, set, take, drop, replicate, length-set, length-take, length-replicate, get_or-replicate, drop_of_length-le}
-use lib.Seq.{drop_at, length_front, ext_get_or, get_or-set_same, get_or-set_other}
+use lib.ListN.{length, get_or, take, drop, replicate, length-take, length-replicate, drop_of_length-le}
+use lib.Seq.{drop_at, length_front}
 use Rattle.nodes.specs.Rooms.{capacity, emptied, zeroed, used}
-use Rattle.nodes.proofs.Slots.{same_or, lt-or-le}
+use Rattle.nodes.proofs.Slots.{lt-or-le}
 
--- ---- word by word
-
--- the first s words are 0
-pub record Cleared (ws ws' : List ℕ) (s : ℕ) : Type 0 where
-  pub size : length ws' ≡ length ws
-  pub zero-below : (i : ℕ) → i < s → i < length ws → get_or ws' i 0 ≡ 0
-
-pub cleared-none : (ws : List ℕ) → Cleared ws ws 0
-cleared-none ws = record { size = refl; zero-below = λ i l k. absurd (omega arith) }
-
-pub cleared_more : (ws ws' : List ℕ) (s : ℕ) → Cleared ws ws' s → Cleared ws (set ws' s 0) (s + 1)
-cleared_more ws ws' s c =
-    record {
-      size = length-set ws' s 0 ∙ c.size;
-      zero-below =
-          λ i l k.
-          ⊎_elim (λ e. subst (λ (j : ℕ). get_or (set ws' s 0) j 0 ≡ 0) (sym e) (get_or-set_same ws' s 0 0 (omega (arith, c.size))))
-          (λ n. get_or-set_other ws' s i 0 0 n ∙ c.zero-below i (omega arith) k) (same_or i s);
-    }
-
-pub cleared-all : (ws ws' : List ℕ) (s : ℕ) → Cleared ws ws' s → length ws' ≤ s → ws' ≡ zeroed ws
-cleared-all ws ws' s c l =
-    ext_get_or 0 ws' (zeroed ws) (c.size ∙ sym (length-replicate (length ws) 0))
-    (λ i k. c.zero-below i (omega arith) (omega (arith, c.size)) ∙ sym (get_or-replicate (length ws) i 0 0 (omega (arith, c.size))))
+-- ---- cleared
 
 pub zeroed-length : (ws ws' : List ℕ) → ws' ≡ zeroed ws → length ws' ≡ length ws
 zeroed-length ws ws' e = ap length e ∙ length-replicate (length ws) 0

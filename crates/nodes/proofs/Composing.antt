@@ -1,26 +1,28 @@
 -- Two operations for the sides of a tree and `make` for the tree itself, one after the other, are one operation for the tree: what is new is a part of it,
 -- and where the room was full, a part of it stands nowhere. Assumes nothing.
-use mathlib.Core.Path.{◌≡◌, subst}
+use mathlib.Core.Path.{◌≡◌}
 use mathlib.Core.Logic.{⊎_elim}
 use mathlib.Core.List.{List}
 use Prim.Native.Nat.{ℕ}
 use lib.ListN.{get_or}
 use Rattle.graphs.specs.Graph.{Of}
 use Rattle.trees.specs.Tree.{Tree, mk, subs}
-use Rattle.nodes.specs.Codes.{Grows}
+use Rattle.nodes.specs.Codes.{Table, Grows}
 use Rattle.nodes.specs.Promise.{Fresh, Built, Short, Outcome}
-use Rattle.nodes.specs.declared.Made.{Made}
-use Rattle.nodes.specs.declared.Made.TheVariants.{At, Full}
+use Rattle.std.specs.Prelude.{Result, Ok, Err}
+use Rattle.nodes.specs.declared.Node.{Node}
+use Rattle.nodes.specs.declared.Full.{Full}
 use Rattle.nodes.proofs.Slots.{same_or, grows-more}
 use Rattle.nodes.proofs.Standing.{stands-grows}
 use Rattle.trees.proofs.Branches.{part_low, part-high}
 
-pub outcome-grows : (ws ws' : List ℕ) (t : Tree) (r : Made) → Outcome ws ws' t r → Grows ws ws'
-outcome-grows ws ws' t (At c) o = o.grows
-outcome-grows ws ws' t Full o = o.grows
+pub outcome-table : (ws ws' : List ℕ) (t : Tree) (r : Result Node Full) → Outcome ws ws' t r → Table ws'
+outcome-table ws ws' t (Ok c) o = o.table
+outcome-table ws ws' t (Err f) o = o.table
 
-pub outcome-as : (ws ws' : List ℕ) (t : Tree) {r r' : Made} → r ≡ r' → Outcome ws ws' t r → Outcome ws ws' t r'
-outcome-as ws ws' t e o = subst (Outcome ws ws' t) e o
+pub outcome-grows : (ws ws' : List ℕ) (t : Tree) (r : Result Node Full) → Outcome ws ws' t r → Grows ws ws'
+outcome-grows ws ws' t (Ok c) o = o.grows
+outcome-grows ws ws' t (Err f) o = o.grows
 
 -- the parts of one tree are parts of the other
 abbrev pub Part : Tree → Tree → Type 0
@@ -80,8 +82,8 @@ module _ (v : ℕ) (l h t : Tree) (e : t ≡ mk v l h) where
           (fresh-part ws₂ ws₃ (mk v l h) t self-part f)
 
       -- `make` was called
-      pub outcome-made : (ws₃ : List ℕ) (r : Made) → Outcome ws₂ ws₃ (mk v l h) r → Outcome ws ws₃ t r
-      outcome-made ws₃ (At c) o =
+      pub outcome-made : (ws₃ : List ℕ) (r : Result Node Full) → Outcome ws₂ ws₃ (mk v l h) r → Outcome ws ws₃ t r
+      outcome-made ws₃ (Ok c) o =
           record { table = o.table; grows = grows_all o.grows; fresh = fresh-all ws₃ o.grows o.fresh; stands = rw e o.stands }
-      outcome-made ws₃ Full o =
+      outcome-made ws₃ (Err f) o =
           record { table = o.table; grows = grows_all o.grows; fresh = fresh-all ws₃ o.grows o.fresh; full = o.full; lacks = rw e o.lacks }

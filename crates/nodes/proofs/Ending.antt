@@ -1,15 +1,11 @@
 -- Joins that need no steps: with a constant, of a code with itself, and those that the memo room has. Assumes nothing.
-use mathlib.Core.Path.{◌≡◌, subst}
-use mathlib.Core.Logic.{◌≢◌}
+use mathlib.Core.Path.{◌≡◌}
 use mathlib.Core.Bool.{Bool, true, false}
 use mathlib.Core.List.{List}
-use Prim.Native.Nat.{ℕ, ◌<◌}
-use native.Mathlib.Omega.{arith}
+use Prim.Native.Nat.{ℕ}
 use Rattle.masks.specs.Sets.{pick}
 use Rattle.trees.specs.Tree.{Tree, join_t}
 use Rattle.nodes.specs.Codes.{Stands, is_off, is_on, Table}
-use Rattle.nodes.specs.Work.{EndsPromise}
-use Rattle.nodes.specs.declared.memos.Seen.{Seen}
 use Rattle.nodes.proofs.Standing.{stands_one, stands_good}
 use Rattle.trees.proofs.Branches.{unit_t, zero_t, join-left, join-right, join-self}
 
@@ -19,13 +15,9 @@ unit-stands : (ws : List ℕ) (or : Bool) (a : ℕ) → a ≡ pick or 0 1 → St
 unit-stands ws true a e = is_off e
 unit-stands ws false a e = is_on e
 
-zero-stands : (ws : List ℕ) (or : Bool) (a : ℕ) → a < 2 → a ≢ pick or 0 1 → Stands ws a (zero_t or)
-zero-stands ws true a l k =
-    let e : a ≡ 1 = omega arith in
-    is_on e
-zero-stands ws false a l k =
-    let e : a ≡ 0 = omega arith in
-    is_off e
+zero-stands : (ws : List ℕ) (or : Bool) (a : ℕ) → a ≡ pick or 1 0 → Stands ws a (zero_t or)
+zero-stands ws true a e = is_on e
+zero-stands ws false a e = is_off e
 
 module _ (or : Bool) (a b : ℕ) (ws : List ℕ) (s t : Tree) (T : Table ws) (sa : Stands ws a s) (sb : Stands ws b t) where
   pub end-unit-l : a ≡ pick or 0 1 → Stands ws b (join_t or s t)
@@ -34,22 +26,17 @@ module _ (or : Bool) (a b : ℕ) (ws : List ℕ) (s t : Tree) (T : Table ws) (sa
   pub end-unit-r : b ≡ pick or 0 1 → Stands ws a (join_t or s t)
   end-unit-r e = rw (stands_one sb (unit-stands ws or b e), (join-right or s).0) sa
 
-  pub end-zero-l : a < 2 → a ≢ pick or 0 1 → Stands ws a (join_t or s t)
-  end-zero-l l k =
-      let z : Stands ws a (zero_t or) = zero-stands ws or a l k in
+  pub end-zero-l : a ≡ pick or 1 0 → Stands ws a (join_t or s t)
+  end-zero-l e =
+      let z : Stands ws a (zero_t or) = zero-stands ws or a e in
       rw (stands_one sa z, (join-left or t).1) z
 
-  pub end-zero-r : b < 2 → b ≢ pick or 0 1 → Stands ws b (join_t or s t)
-  end-zero-r l k =
-      let z : Stands ws b (zero_t or) = zero-stands ws or b l k in
+  pub end-zero-r : b ≡ pick or 1 0 → Stands ws b (join_t or s t)
+  end-zero-r e =
+      let z : Stands ws b (zero_t or) = zero-stands ws or b e in
       rw (stands_one sb z, (join-right or s).1) z
 
   pub end_same : a ≡ b → Stands ws a (join_t or s t)
   end_same e =
       let k : t ≡ s = stands_one sb (rw e at sa) in
       rw (k, join-self or s 0 (stands_good T sa)) sa
-
--- ---- what `ends` says, of the answer that it gave
-
-pub ended-as : (or : Bool) (a b : ℕ) {r r' : Seen} → r ≡ r' → EndsPromise or a b r → EndsPromise or a b r'
-ended-as or a b e k = subst (EndsPromise or a b) e k

@@ -8,6 +8,7 @@ pub mod Ending
 pub mod Splitting
 pub mod Walking
 pub mod Remembering
+pub mod Ordering
 pub mod Composing
 pub mod Applying
 pub mod Counting

@@ -11,9 +11,9 @@ use Rattle.trees.specs.Tree.{Tree, br, mk}
 use Rattle.nodes.specs.Packing.{packed}
 use Rattle.nodes.specs.Codes.{Taken, Stands, Fair, home, Reach, Table, Grows}
 use Rattle.nodes.specs.Promise.{Fresh, Built, Short, Makeable}
-use Rattle.nodes.specs.Work.{Skipped}
+use Rattle.nodes.specs.Work.{Skipped, Open}
 use Rattle.nodes.proofs.Packings.{packed-variable, packed-low, packed-high}
-use Rattle.nodes.proofs.Slots.{taken-lt, taken-set, set-grows, grows-reach, grows_same}
+use Rattle.nodes.proofs.Slots.{taken-lt, taken-set, set-grows, set-again, grows-reach, grows_same}
 use Rattle.nodes.proofs.Standing.{stands-grows, held-grows, stands_one, stands-code, stands-small, node-stands, node-word, node-taken}
 use Rattle.trees.proofs.Branches.{mk-same, mk-other}
 
@@ -87,7 +87,7 @@ module _ (ws : List ℕ) (v lo hi : ℕ) (M : Makeable ws v lo hi) where
     apart : (l h : Tree) → Stands ws lo l → Stands ws hi h → mk v l h ≡ br v l h
     apart l h sl sh = mk-other v l h (λ e. d (stands-code T sl (rw e sh)))
 
-    pub make-here : (s : ℕ) → get_or ws s 0 ≡ packed v lo hi → (l h : Tree) → Stands ws lo l → Stands ws hi h → Built ws ws (mk v l h) (s + 2)
+    make-here : (s : ℕ) → get_or ws s 0 ≡ packed v lo hi → (l h : Tree) → Stands ws lo l → Stands ws hi h → Built ws ws (mk v l h) (s + 2)
     make-here s e l h sl sh = kept T (rw (apart l h sl sh) (node-stands s v lo hi lo_small hi_small d e sl sh))
 
     word-fair : Fair ws (packed v lo hi)
@@ -97,7 +97,7 @@ module _ (ws : List ℕ) (v lo hi : ℕ) (M : Makeable ws v lo hi) where
         let c = packed-high v lo hi lo_small hi_small in
         record { variable = rw a M.variable; low = rw (a, b) M.low; high = rw (a, c) M.high; differ = rw (b, c) d }
 
-    pub make-empty : (s w : ℕ) → w ≡ packed v lo hi → s < length ws → get_or ws s 0 ≡ 0 → Reach ws (home w (length ws)) s → ((u : ℕ) → get_or ws u 0 ≢ w)
+    make-empty : (s w : ℕ) → w ≡ packed v lo hi → s < length ws → get_or ws s 0 ≡ 0 → Reach ws (home w (length ws)) s → ((u : ℕ) → get_or ws u 0 ≢ w)
         → (l h : Tree) → Stands ws lo l → Stands ws hi h → Built ws (set ws s w) (mk v l h) (s + 2)
     make-empty s w e lt z r a l h sl sh =
         let g : Grows ws (set ws s w) = set-grows ws s w z in
@@ -111,6 +111,13 @@ module _ (ws : List ℕ) (v lo hi : ℕ) (M : Makeable ws v lo hi) where
           fresh = λ u zu tu. (br v l h, inl refl, ⊎_elim (λ p. rw p q) (λ m. absurd (m zu)) (taken-set ws s w u tu));
           stands = q;
         })
+
+    -- the slot that a search for the word found gets the word
+    pub make-at : (s w : ℕ) → w ≡ packed v lo hi → s < length ws → (get_or ws s 0 ≡ w) ⊎ Open ws w s
+        → (l h : Tree) → Stands ws lo l → Stands ws hi h → Built ws (set ws s w) (mk v l h) (s + 2)
+    make-at s w e lt x l h sl sh =
+        ⊎_elim (λ q. rw (set-again ws s w lt q) (make-here s (q ∙ e) l h sl sh))
+        (λ o. make-empty s w e lt o.empty o.reached o.absent l h sl sh) x
 
     pub make-full : (w : ℕ) → w ≡ packed v lo hi → Skipped ws w 0 (length ws) → (l h : Tree) → Stands ws lo l → Stands ws hi h → Short ws ws (mk v l h)
     make-full w e p l h sl sh =

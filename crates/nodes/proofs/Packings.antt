@@ -7,6 +7,7 @@ use Prim.Native.Nat.{ℕ, min, max, ◌+◌, ◌*◌, ◌/◌, ◌%◌, ◌^◌,
 use native.Mathlib.Omega.{arith}
 use native.Mathlib.Nat.{le_of_lt, mul-le-mul_left, mul-lt-mul_of_pos_right, div-lt_iff_lt-mul}
 use lib.Bits.{bit_and, bit_or, and_mask, or_shifted, or_shifted_r}
+use Rattle.std.specs.Int.Bits.{or_zero_r}
 use lib.Dec.{ltb}
 use borrow.Author.Tests.{lt-ltb, le-ltb, ltb-false}
 use Rattle.masks.specs.Sets.{pick}
@@ -104,6 +105,10 @@ key-or a b l k = or_shifted_r 1 34 (pair a b) (pair_fits a b l k) ∙ omega arit
 pub key-and : (a b : ℕ) → pair a b ≡ key false a b
 unfolding key
 key-and a b = omega arith
+
+pub key-marked : (or : Bool) (a b m : ℕ) → a < 2 ^ 17 → b < 2 ^ 17 → m ≡ pick or (2 ^ 34) 0 → bit_or (pair a b) m ≡ key or a b
+key-marked true a b m l k e = rw e (key-or a b l k)
+key-marked false a b m l k e = rw e (or_zero_r (pair a b) ∙ key-and a b)
 
 pub key_fits : (or : Bool) (a b : ℕ) → a < 2 ^ 17 → b < 2 ^ 17 → key or a b < 2 ^ 42
 unfolding key

@@ -14,8 +14,8 @@ use Rattle.trees.proofs.Joins.{join_t-comm}
 use Rattle.nodes.specs.Codes.{Stands, Table, Grows}
 use Rattle.nodes.specs.Promise.{pair, key, noted, Entry, Memo}
 use Rattle.nodes.specs.Work.{Recalled, Known}
-use Rattle.nodes.specs.declared.memos.Seen.{Seen}
-use Rattle.nodes.specs.declared.memos.Seen.TheVariants.{Answer, Unknown}
+use Rattle.std.specs.Prelude.{Option, Some, None}
+use Rattle.nodes.specs.declared.Node.{Node}
 use Rattle.nodes.proofs.Slots.{same_or, lt-or-le}
 use Rattle.nodes.proofs.Standing.{stands-grows, stands_one, stands_good, stands-small}
 
@@ -120,6 +120,6 @@ module _ (ws ms : List ℕ) (or : Bool) (a b : ℕ) (s t : Tree) (T : Table ws) 
   memo-right i r q l = found r (get_or ms i 0) l q (m i (λ z. noted-nonzero or a b r a2 (sym q ∙ z)))
 
 -- what `recall` found is known
-pub known-recalled : (ms : List ℕ) (or : Bool) (a b : ℕ) (r : Seen) → (2 ≤ a) × (2 ≤ b) → Recalled ms or a b r → Known ms or a b r
-known-recalled ms or a b (Answer c) k q = λ ws s t T m sa sb. memo-right ws ms or a b s t T m k.0 sa sb q.0 c.0 q.1 q.2
-known-recalled ms or a b Unknown k q = k
+pub known-recalled : (ms : List ℕ) (or : Bool) (a b : ℕ) (r : Option Node) → (2 ≤ a) × (2 ≤ b) → Recalled ms or a b r → Known ms or a b r
+known-recalled ms or a b (Some c) k q = λ ws s t T m sa sb. memo-right ws ms or a b s t T m k.0 sa sb q.0 c.0 q.1 q.2
+known-recalled ms or a b None k q = k

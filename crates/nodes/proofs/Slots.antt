@@ -6,7 +6,7 @@ use Prim.Native.Nat.{ℕ, ◌+◌, ◌≤◌, ◌<◌}
 use native.Mathlib.Omega.{arith}
 use native.Mathlib.Decide.{dec_lt, ℕ_discrete}
 use lib.ListN.{length, get_or, set, length-set, get_or-eq_default}
-use lib.Seq.{get_or-set_other}
+use lib.Seq.{ext_get_or, get_or-set_same, get_or-set_other}
 use Rattle.nodes.specs.Codes.{Taken, Filled, Reach, ahead, around, Reaches, home, Grows}
 use Rattle.nodes.specs.Work.{Skipped}
 
@@ -97,6 +97,13 @@ grows-reach {ws} {ws'} {h} {s} g (around f k) = around (rw g.size (grows-filled 
 pub set-grows : (ws : List ℕ) (e w : ℕ) → get_or ws e 0 ≡ 0 → Grows ws (set ws e w)
 set-grows ws e w z =
     record { size = length-set ws e w; keeps = λ s t. get_or-set_other ws e s w 0 (λ k. t (ap (λ (i : ℕ). get_or ws i 0) k ∙ z)) }
+
+-- a slot gets the word that it has
+pub set-again : (ws : List ℕ) (e w : ℕ) → e < length ws → get_or ws e 0 ≡ w → set ws e w ≡ ws
+set-again ws e w l q =
+    ext_get_or 0 (set ws e w) ws (length-set ws e w)
+    (λ i k. ⊎_elim (λ p. ap (λ (j : ℕ). get_or (set ws e w) j 0) p ∙ get_or-set_same ws e w 0 l ∙ sym q ∙ ap (λ (j : ℕ). get_or ws j 0) (sym p))
+    (λ n. get_or-set_other ws e i w 0 n) (same_or i e))
 
 -- a slot in use after a store was so before, or is the one stored to
 pub taken-set : (ws : List ℕ) (e w s : ℕ) → Taken (set ws e w) s → (s ≡ e) ⊎ Taken ws s

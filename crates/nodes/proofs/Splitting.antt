@@ -1,13 +1,18 @@
 -- Two nodes taken apart at the lower variable: at the variable of the first, of the second, or of both. Assumes nothing.
-use mathlib.Core.Path.{◌≡◌, sym, ◌∙◌}
+use mathlib.Core.Path.{◌≡◌, sym, ap, ◌∙◌}
+use mathlib.Core.Logic.{◌≢◌, ⊎_elim}
 use mathlib.Core.List.{List}
 use Prim.Native.Nat.{ℕ, suc, min, ◌≤◌, ◌<◌}
 use native.Mathlib.Omega.{arith}
+use lib.Dec.{eqb}
+use borrow.Author.Tests.{eq-eqb, ne_eqb}
+use Rattle.masks.specs.Sets.{pick}
 use Rattle.trees.specs.Tree.{Tree, br}
 use Rattle.nodes.specs.Packing.{variable_of, low_of, high_of}
 use Rattle.nodes.specs.Codes.{word, level, Stands, is_off, is_on, is_br, Held, Table}
 use Rattle.nodes.specs.Work.{Split}
 use Rattle.nodes.specs.declared.joins.Parts.{Parts}
+use Rattle.nodes.proofs.Slots.{lt-or-le}
 use Rattle.nodes.proofs.Standing.{Sides, node-sides, level-node}
 use Rattle.trees.proofs.Branches.{join-less, join-both, join_more}
 
@@ -32,6 +37,13 @@ opened {ws} {c} T p (is_br {v = v} {l = l} {h = h} q z e sl sh) =
       high = sh;
       sides = rw e (node-sides {c = c} T (is_br {v = v} q z e sl sh));
     }
+
+-- a test whether two variables are the same
+own : (x y l c : ℕ) → x ≡ y → pick (eqb x y) l c ≡ l
+own x y l c e = ap (λ b. pick b l c) (eq-eqb x y e)
+
+passed : (x y l c : ℕ) → x ≢ y → pick (eqb x y) l c ≡ c
+passed x y l c n = ap (λ b. pick b l c) (ne_eqb x y n)
 
 -- ---- what the codes of the parts stand for, at another name k of the lower variable
 
@@ -63,7 +75,7 @@ module _ (ws : List ℕ) (T : Table ws) (a b : ℕ) (a2 : 2 ≤ a) (b2 : 2 ≤ b
   lower_of : (x : ℕ) → x ≡ min v w → x ≡ min (level ws a) (level ws b)
   lower_of x e = rw (level-node ws a a2, level-node ws b b2) e
 
-  pub split-less : v < w → p.v.0 ≡ v → p.a0.0 ≡ low_of (word ws a) → p.a1.0 ≡ high_of (word ws a) → p.b0.0 ≡ b → p.b1.0 ≡ b → Split ws a b p s t
+  split-less : v < w → p.v.0 ≡ v → p.a0.0 ≡ low_of (word ws a) → p.a1.0 ≡ high_of (word ws a) → p.b0.0 ≡ b → p.b1.0 ≡ b → Split ws a b p s t
   split-less k ev e0 e1 f0 f1 =
       record {
         lower = lower_of p.v.0 (omega arith);
@@ -74,7 +86,7 @@ module _ (ws : List ℕ) (T : Table ws) (a b : ℕ) (a2 : 2 ≤ a) (b2 : 2 ≤ b
         joins = λ or. join-less or v w L.l L.h R.l R.h p.v.0 L.is R.is ev k;
       }
 
-  pub split-more : w < v → p.v.0 ≡ w → p.a0.0 ≡ a → p.a1.0 ≡ a → p.b0.0 ≡ low_of (word ws b) → p.b1.0 ≡ high_of (word ws b) → Split ws a b p s t
+  split-more : w < v → p.v.0 ≡ w → p.a0.0 ≡ a → p.a1.0 ≡ a → p.b0.0 ≡ low_of (word ws b) → p.b1.0 ≡ high_of (word ws b) → Split ws a b p s t
   split-more k ev e0 e1 f0 f1 =
       record {
         lower = lower_of p.v.0 (omega arith);
@@ -85,7 +97,7 @@ module _ (ws : List ℕ) (T : Table ws) (a b : ℕ) (a2 : 2 ≤ a) (b2 : 2 ≤ b
         joins = λ or. join_more or v w L.l L.h R.l R.h p.v.0 L.is R.is ev k;
       }
 
-  pub split-both : v ≡ w → p.v.0 ≡ v → p.a0.0 ≡ low_of (word ws a) → p.a1.0 ≡ high_of (word ws a) → p.b0.0 ≡ low_of (word ws b)
+  split-both : v ≡ w → p.v.0 ≡ v → p.a0.0 ≡ low_of (word ws a) → p.a1.0 ≡ high_of (word ws a) → p.b0.0 ≡ low_of (word ws b)
       → p.b1.0 ≡ high_of (word ws b) → Split ws a b p s t
   split-both k ev e0 e1 f0 f1 =
       record {
@@ -96,3 +108,18 @@ module _ (ws : List ℕ) (T : Table ws) (a b : ℕ) (a2 : 2 ≤ a) (b2 : 2 ≤ b
         b1 = high_part R (ev ∙ k) p.b1.0 f1;
         joins = λ or. join-both or v w L.l L.h R.l R.h p.v.0 L.is R.is ev k;
       }
+
+  -- at the lower of the two variables, each node by the test whether that is its own
+  pub split-at : p.v.0 ≡ min v w
+      → p.a0.0 ≡ pick (eqb v p.v.0) (low_of (word ws a)) a → p.a1.0 ≡ pick (eqb v p.v.0) (high_of (word ws a)) a
+      → p.b0.0 ≡ pick (eqb w p.v.0) (low_of (word ws b)) b → p.b1.0 ≡ pick (eqb w p.v.0) (high_of (word ws b)) b → Split ws a b p s t
+  split-at e e0 e1 f0 f1 = ⊎_elim less (λ l. ⊎_elim more (λ m. both (omega arith)) (lt-or-le w v)) (lt-or-le v w)
+    where
+      less : v < w → Split ws a b p s t
+      less k = split-less k (omega arith) (e0 ∙ own v _ _ _ (omega arith)) (e1 ∙ own v _ _ _ (omega arith)) (f0 ∙ passed w _ _ _ (λ q. omega arith)) (f1 ∙ passed w _ _ _ (λ q. omega arith))
+
+      more : w < v → Split ws a b p s t
+      more k = split-more k (omega arith) (e0 ∙ passed v _ _ _ (λ q. omega arith)) (e1 ∙ passed v _ _ _ (λ q. omega arith)) (f0 ∙ own w _ _ _ (omega arith)) (f1 ∙ own w _ _ _ (omega arith))
+
+      both : v ≡ w → Split ws a b p s t
+      both k = split-both k (omega arith) (e0 ∙ own v _ _ _ (omega arith)) (e1 ∙ own v _ _ _ (omega arith)) (f0 ∙ own w _ _ _ (omega arith)) (f1 ∙ own w _ _ _ (omega arith))

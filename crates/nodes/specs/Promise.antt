@@ -1,11 +1,11 @@
 -- What the operations on the rooms promise. Assumes nothing.
-use Rattle.std.specs.Prelude.{◌≡◌, Bool, List, ℕ, suc, min, max, ◌+◌, ◌*◌, ◌^◌, ◌<◌, length, get_or}
+use Rattle.std.specs.Prelude.{Result, Ok, Err, ◌≡◌, Bool, List, ℕ, suc, min, max, ◌+◌, ◌*◌, ◌^◌, ◌<◌, length, get_or}
 use Rattle.masks.specs.Sets.{pick}
 use Rattle.graphs.specs.Graph.{Of}
 use Rattle.trees.specs.Tree.{Tree, off, on, br, eval, mk, join_t, subs, subs_all, once}
 use Rattle.nodes.specs.Codes.{variables, Taken, Stands, Held, Filled, Table, Grows}
-use Rattle.nodes.specs.declared.Made.{Made}
-use Rattle.nodes.specs.declared.Made.TheVariants.{At, Full}
+use Rattle.nodes.specs.declared.Node.{Node}
+use Rattle.nodes.specs.declared.Full.{Full}
 use Rattle.nodes.specs.declared.Shape.{Shape}
 use Rattle.nodes.specs.declared.Shape.TheVariants.{Off, On, Branch}
 
@@ -30,9 +30,9 @@ pub record Short (ws ws' : List ℕ) (t : Tree) : Type 0 where
   pub full : Filled ws' 0 (length ws')
   pub lacks : (u : Tree) × Of u (subs t) × ((c : ℕ) → Stands ws' c u → ⊥)
 
-abbrev pub Outcome : List ℕ → List ℕ → Tree → Made → Type 0
-Outcome ws ws' t (At c) = Built ws ws' t c.0
-Outcome ws ws' t Full = Short ws ws' t
+abbrev pub Outcome : List ℕ → List ℕ → Tree → Result Node Full → Type 0
+Outcome ws ws' t (Ok c) = Built ws ws' t c.0
+Outcome ws ws' t (Err f) = Short ws ws' t
 
 -- ---- `make`
 
@@ -42,7 +42,7 @@ pub record Makeable (ws : List ℕ) (v lo hi : ℕ) : Type 0 where
   pub low : Held ws (suc v) lo
   pub high : Held ws (suc v) hi
 
-abbrev pub MakePromise : List ℕ → List ℕ → ℕ → ℕ → ℕ → Made → Type 0
+abbrev pub MakePromise : List ℕ → List ℕ → ℕ → ℕ → ℕ → Result Node Full → Type 0
 MakePromise ws ws' v lo hi r = (l h : Tree) → Stands ws lo l → Stands ws hi h → Outcome ws ws' (mk v l h) r
 
 -- ---- OR (true) and AND (false)
@@ -79,7 +79,7 @@ pub record Joinable (ws ms : List ℕ) (a b : ℕ) : Type 0 where
   pub left : Held ws 0 a
   pub right : Held ws 0 b
 
-pub record Joined (or : Bool) (ws ws' ms' : List ℕ) (a b : ℕ) (r : Made) : Type 0 where
+pub record Joined (or : Bool) (ws ws' ms' : List ℕ) (a b : ℕ) (r : Result Node Full) : Type 0 where
   pub outcome : (s t : Tree) → Stands ws a s → Stands ws b t → Outcome ws ws' (join_t or s t) r
   pub memo : Memo ws' ms'
 

@@ -5,44 +5,29 @@ ghost use Rattle.nodes.specs.Work.{Scanned, Probed};
 
 use super::words::home;
 
-#[derive(Clone, Copy)]
-pub enum Spot {
-    Here(usize),
-    Empty(usize),
-    Gone,
-}
-
 // The first slot of from..to that holds w or is not in use.
-fn scan(nodes: &[u64], w: u64, from: usize, to: usize) -> Spot
+fn scan(nodes: &[u64], w: u64, from: usize, to: usize) -> Option<usize>
     requires { (from ≤ to) × (to ≤ length nodes.now) }
     ensures { Scanned nodes.now w from to result }
 {
-    let mut s = from;
-    while s < to {
+    for s in from..to {
         let x = nodes[s];
-        if x == 0 {
-            return Spot::Empty(s);
+        if x == 0 || x == w {
+            return Some(s);
         }
-        if x == w {
-            return Spot::Here(s);
-        }
-        s += 1;
     }
-    Spot::Gone
+    None
 }
 
-pub fn probe(nodes: &[u64], w: u64) -> Spot
+// The slot that holds w, or else the one where a search for w will find it.
+pub fn probe(nodes: &[u64], w: u64) -> Option<usize>
     requires { (w ≢ 0) × (w < 2 ^ 42) × Reaches nodes.now }
     ensures { Probed nodes.now w result }
 {
     let n = nodes.len();
     if n == 0 {
-        return Spot::Gone;
+        return None;
     }
     let h = home(w, n);
-    match scan(nodes, w, h, n) {
-        Spot::Here(s) => Spot::Here(s),
-        Spot::Empty(s) => Spot::Empty(s),
-        Spot::Gone => scan(nodes, w, 0, h),
-    }
+    scan(nodes, w, h, n).or_else(|| scan(nodes, w, 0, h))
 }

@@ -12,7 +12,7 @@ use lib.Pow.{pow_pos}
 use borrow.Author.Tests.{ltb-true, ltb-false, leb-true, leb-false, eqb-true, eqb-false}
 use Rattle.masks.specs.Sets.{bit, pick, put, cut, those, weight}
 use Rattle.masks.proofs.Bits.{bit-zero}
-use Rattle.masks.proofs.Members.{put_same, put_other, put-lt, cut-same, cut-other, cut-lt, put-cut}
+use Rattle.masks.proofs.PutCut.{put_same, put_other, put-lt, cut-same, cut-other, cut-lt, put-cut}
 use Rattle.masks.proofs.Weights.{weight-none}
 use Rattle.masks.proofs.Those.{those-lt, those-in}
 use Rattle.graphs.specs.Light.{left, Lighter}

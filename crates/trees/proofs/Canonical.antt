@@ -7,7 +7,7 @@ use mathlib.Core.Bool.{Bool, true, false, true≢false, false≢true}
 use Prim.Native.Nat.{ℕ, suc, ◌≤◌, compare, Ordering}
 use native.Mathlib.Omega.{arith}
 use Rattle.masks.specs.Sets.{bit, put, cut}
-use Rattle.masks.proofs.Members.{put_same, put_other, cut-same, cut-other}
+use Rattle.masks.proofs.PutCut.{put_same, put_other, cut-same, cut-other}
 use Rattle.graphs.specs.Graph.{Of}
 use Rattle.graphs.proofs.Lists.{Of-cases}
 use Rattle.trees.specs.Tree.{Tree, off, on, br, at, eval, Ordered, Reduced, subs}

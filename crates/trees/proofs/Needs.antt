@@ -13,7 +13,7 @@ use lib.Dec.{ltb}
 use borrow.Author.Tests.{ltb-true, ltb-false, le-ltb, lt-ltb}
 use Rattle.masks.specs.Sets.{bit, pick, put, cut}
 use Rattle.masks.proofs.Bits.{mix-low, mix-rest}
-use Rattle.masks.proofs.Members.{put_same, put_other, put-lt, cut-same, cut-other, cut-lt}
+use Rattle.masks.proofs.PutCut.{put_same, put_other, put-lt, cut-same, cut-other, cut-lt}
 use Rattle.graphs.specs.Graph.{Of, Differ}
 use Rattle.graphs.proofs.Lists.{differ-le, differ-map, Of-left, Of-right, Of-cases, Of-map, Of-from}
 use Rattle.trees.specs.Tree.{Tree, off, on, br, Tree-discrete, eval, Ordered, subs, subs_all, is_yes, has, once}

@@ -1,8 +1,11 @@
-use Rattle.nodes.proofs.Packings.{key-or, key-and}
+use Rattle.std.proofs.Common.{◌∙◌, ap, bit_or, arith}
+use Rattle.nodes.proofs.Packings.{pair_is, key-marked}
 use Rattle.nodes.proofs.memos.key.Goals as goal
 
-pub returns-then-or : goal.returns-then-or
-returns-then-or c = rw (c.pair-both.ensures, c.if-or.true) (key-or c.args.a.0 c.args.b.0 c.requires.0 c.requires.1)
-
 pub returns : goal.returns
-returns c = rw (c.pair-both.ensures, c.if-or.false) (key-and c.args.a.0 c.args.b.0)
+returns g c =
+    let k = c.requires in
+    let least = c.min.ensures in
+    let most = c.max.ensures in
+    ap (λ p. bit_or p c.mark.result) (pair_is c.args.a.0 c.args.b.0 _ _ (omega arith) (omega arith) least most)
+    ∙ key-marked g.C.Connective.or c.args.a.0 c.args.b.0 _ k.0 k.1 c.mark.ensures
