@@ -3,18 +3,21 @@
 use mathlib.Core.Path.{◌≡◌, refl, sym, ap, ◌∙◌, subst}
 use mathlib.Core.Logic.Iff
 use mathlib.Core.Logic.{inl, inr, ⊎_elim, ◌↔◌}
-use mathlib.Core.Bool.{Bool, true, false, ◌||◌}
+use mathlib.Core.Bool.{Bool, false, ◌||◌}
 use mathlib.Core.List.{List, [], ◌∷◌}
 use mathlib.Core.Option.{Option, none, some}
 use Prim.Native.Nat.{ℕ}
 use lib.Dec.{T}
 use lib.ListN.{length}
 use Rattle.masks.specs.Sets.{bit}
-use Rattle.masks.proofs.Tests.{T-or, or_l, or_r}
+use Rattle.masks.proofs.Tests.{T-or, or_l, or_r, iff-eq}
 use Rattle.graphs.specs.Graph.{edge, Of, Loop}
 use Rattle.graphs.specs.Components.{Component, Components, inside}
 use Rattle.graphs.specs.Refusals.{first, too_many, outside}
-use Rattle.graphs.specs.declared.Refusal.{Refusal}
+use Rattle.std.specs.Prelude.{Result, Ok, Err}
+use Rattle.graphs.specs.Refusals.{place_of}
+use Rattle.graphs.specs.declared.refusal.Refusal.{Refusal}
+use Rattle.graphs.specs.declared.refusal.Refusal.TheVariants.{RoomTooSmall}
 use Rattle.graphs.proofs.Loops.{RowsFit}
 use Rattle.graphs.proofs.Tables.{first_off, first_rest, outside-off, refusal-same}
 use Rattle.graphs.proofs.Components.{EdgesBelow, edges-below, components_of, components-found}
@@ -22,7 +25,6 @@ use Rattle.trees.specs.Tree.{eval}
 use Rattle.nodes.specs.Rooms.{capacity, emptied, zeroed}
 use Rattle.cycles.specs.Promise.{kept_outside, ask_lines, AskAnswer, AskCases, AskPromise}
 use Rattle.cycles.specs.declared.Asked.{Asked}
-use Rattle.cycles.specs.declared.Asked.TheVariants.{Yes, No, Refused}
 use Rattle.cycles.proofs.Passes.{cycle-loop, loop-parts}
 use Rattle.cycles.proofs.Models.{cycle_t, cycle-is}
 use Rattle.cycles.proofs.Fits.{Fitting, fits, exceeds, fitting, Fits, fitting-is, answered-unique, too-large-unique, answered-or-too-large}
@@ -34,21 +36,23 @@ unfoldable pub holds_t : (ℕ → ℕ → Bool) → ℕ → List ℕ → ℕ →
 holds_t E n [] K = false
 holds_t E n (C ∷ Cs) K = eval (cycle_t E n C) K || holds_t E n Cs K
 
-abbrev pub answer_by : Fitting → Bool → Asked
-answer_by (fits m) true = Yes m
-answer_by (fits m) false = No m
-answer_by (exceeds p) h = Refused (record { number = 4; place = p })
+abbrev pub asked_with : Bool → ℕ → Result Asked Refusal
+asked_with holds need = Ok (record { holds = holds; need = need })
+
+abbrev pub answer_by : Fitting → Bool → Result Asked Refusal
+answer_by (fits m) h = asked_with h m
+answer_by (exceeds p) h = Err (RoomTooSmall p)
 
 -- of a block that is not refused with 1, 3 or 9, whose components are given
-abbrev pub answer_of : (ℕ → ℕ → Bool) → ℕ → ℕ → ℕ → List ℕ → Asked
+abbrev pub answer_of : (ℕ → ℕ → Bool) → ℕ → ℕ → ℕ → List ℕ → Result Asked Refusal
 answer_of E n kept room Cs = answer_by (fitting E n room Cs) (holds_t E n Cs kept)
 
-abbrev pub ask_by : Option Refusal → List ℕ → ℕ → ℕ → Asked
-ask_by (some r) rows kept room = Refused r
+abbrev pub ask_by : Option Refusal → List ℕ → ℕ → ℕ → Result Asked Refusal
+ask_by (some r) rows kept room = Err r
 ask_by none rows kept room = answer_of (edge rows) (length rows) kept room (components_of rows)
 
 -- the answer for a block, a kept mask and a capacity
-unfoldable pub ask_model : List ℕ → ℕ → ℕ → Asked
+unfoldable pub ask_model : List ℕ → ℕ → ℕ → Result Asked Refusal
 ask_model rows kept room = ask_by (first (ask_lines rows kept)) rows kept room
 
 -- the rooms after it
@@ -100,8 +104,7 @@ module _ (E : ℕ → ℕ → Bool) (n : ℕ) (low : EdgesBelow E n) (K : ℕ) w
 -- the answer, given what fits and whether a loop is kept
 answer_by-right : (rows : List ℕ) (kept room : ℕ) (Cs : List ℕ) → Components (edge rows) Cs → (r : Fitting) → Fits (edge rows) (length rows) room Cs r → (h : Bool)
     → T h ↔ Loop (edge rows) (bit kept) → AskAnswer rows kept room (answer_by r h)
-answer_by-right rows kept room Cs comps (fits m) f true l = (record { parts = Cs; are = comps; fit = f }, l.0 tt)
-answer_by-right rows kept room Cs comps (fits m) f false l = (record { parts = Cs; are = comps; fit = f }, l.1)
+answer_by-right rows kept room Cs comps (fits m) f h l = (record { parts = Cs; are = comps; fit = f }, l)
 answer_by-right rows kept room Cs comps (exceeds p) f h l = (refl, record { parts = Cs; are = comps; excess = f })
 
 pub answer-right : (rows : List ℕ) (kept room : ℕ) → RowsFit rows → (Cs : List ℕ) → Components (edge rows) Cs
@@ -127,19 +130,21 @@ ask-meets rows kept nodes memo = go (first (ask_lines rows kept)) refl
 
 -- ---- any two answers that the promise allows are equal
 
-pub answer-unique : (rows : List ℕ) (kept room : ℕ) (a b : Asked) → AskAnswer rows kept room a → AskAnswer rows kept room b → a ≡ b
-answer-unique rows kept room (Yes m) (Yes k) p q = ap Yes (answered-unique (edge rows) (length rows) room m k p.0 q.0)
-answer-unique rows kept room (Yes m) (No k) p q = absurd (q.1 p.1)
-answer-unique rows kept room (Yes m) (Refused s) p q = absurd (answered-or-too-large (edge rows) (length rows) room m s.place p.0 q.1)
-answer-unique rows kept room (No m) (Yes k) p q = absurd (p.1 q.1)
-answer-unique rows kept room (No m) (No k) p q = ap No (answered-unique (edge rows) (length rows) room m k p.0 q.0)
-answer-unique rows kept room (No m) (Refused s) p q = absurd (answered-or-too-large (edge rows) (length rows) room m s.place p.0 q.1)
-answer-unique rows kept room (Refused r) (Yes k) p q = absurd (answered-or-too-large (edge rows) (length rows) room k r.place q.0 p.1)
-answer-unique rows kept room (Refused r) (No k) p q = absurd (answered-or-too-large (edge rows) (length rows) room k r.place q.0 p.1)
-answer-unique rows kept room (Refused r) (Refused s) p q =
-    ap Refused (refusal-same r s (p.0 ∙ sym q.0) (too-large-unique (edge rows) (length rows) room r.place s.place p.1 q.1))
+-- whether a loop is kept, and the need: the same, so the answers are
+asked-same : (a b : Asked) → a.holds ≡ b.holds → a.need ≡ b.need → a ≡ b
+asked-same a b h n = λ i. record { holds = h i; need = n i }
 
-pub ask-unique : (rows : List ℕ) (kept : ℕ) (nodes memo : List ℕ) (a b : Asked) (nodes₁ nodes₂ memo₁ memo₂ : List ℕ)
+pub answer-unique : (rows : List ℕ) (kept room : ℕ) (a b : Result Asked Refusal) → AskAnswer rows kept room a → AskAnswer rows kept room b → a ≡ b
+answer-unique rows kept room (Ok a) (Ok b) p q =
+    ap Ok (asked-same a b (iff-eq a.holds b.holds (Iff.trans p.1 (Iff.symm q.1))) (answered-unique (edge rows) (length rows) room a.need b.need p.0 q.0))
+answer-unique rows kept room (Ok a) (Err s) p q =
+    absurd (answered-or-too-large (edge rows) (length rows) room a.need (place_of s) p.0 q.1)
+answer-unique rows kept room (Err r) (Ok b) p q =
+    absurd (answered-or-too-large (edge rows) (length rows) room b.need (place_of r) q.0 p.1)
+answer-unique rows kept room (Err r) (Err s) p q =
+    ap Err (refusal-same r s (p.0 ∙ sym q.0) (too-large-unique (edge rows) (length rows) room (place_of r) (place_of s) p.1 q.1))
+
+pub ask-unique : (rows : List ℕ) (kept : ℕ) (nodes memo : List ℕ) (a b : Result Asked Refusal) (nodes₁ nodes₂ memo₁ memo₂ : List ℕ)
     → AskPromise rows kept nodes memo a nodes₁ memo₁ → AskPromise rows kept nodes memo b nodes₂ memo₂ → (a ≡ b) × (nodes₁ ≡ nodes₂) × (memo₁ ≡ memo₂)
 ask-unique rows kept nodes memo a b nodes₁ nodes₂ memo₁ memo₂ = go (first (ask_lines rows kept))
   where
@@ -149,14 +154,14 @@ ask-unique rows kept nodes memo a b nodes₁ nodes₂ memo₁ memo₂ = go (firs
     go none p q = (answer-unique rows kept (capacity nodes) a b p.0 q.0, p.1 ∙ sym q.1, p.2 ∙ sym q.2)
 
 -- so an answer that is allowed is the model's
-pub ask-is : (rows : List ℕ) (kept : ℕ) (nodes memo : List ℕ) (a : Asked) (nodes' memo' : List ℕ) → AskPromise rows kept nodes memo a nodes' memo'
+pub ask-is : (rows : List ℕ) (kept : ℕ) (nodes memo : List ℕ) (a : Result Asked Refusal) (nodes' memo' : List ℕ) → AskPromise rows kept nodes memo a nodes' memo'
     → (a ≡ ask_model rows kept (capacity nodes)) × (nodes' ≡ nodes_model rows kept nodes) × (memo' ≡ memo_model rows kept memo)
 ask-is rows kept nodes memo a nodes' memo' p =
     ask-unique rows kept nodes memo a (ask_model rows kept (capacity nodes)) nodes' (nodes_model rows kept nodes) memo' (memo_model rows kept memo) p
     (ask-meets rows kept nodes memo)
 
 -- "what they held on entry changes no answer", nor does the memo room: with rooms of one capacity the answers are equal
-pub ask-same : (rows : List ℕ) (kept : ℕ) (nodes₁ memo₁ nodes₂ memo₂ : List ℕ) (a b : Asked) (nodes₁' memo₁' nodes₂' memo₂' : List ℕ)
+pub ask-same : (rows : List ℕ) (kept : ℕ) (nodes₁ memo₁ nodes₂ memo₂ : List ℕ) (a b : Result Asked Refusal) (nodes₁' memo₁' nodes₂' memo₂' : List ℕ)
     → capacity nodes₁ ≡ capacity nodes₂ → AskPromise rows kept nodes₁ memo₁ a nodes₁' memo₁' → AskPromise rows kept nodes₂ memo₂ b nodes₂' memo₂' → a ≡ b
 ask-same rows kept nodes₁ memo₁ nodes₂ memo₂ a b nodes₁' memo₁' nodes₂' memo₂' e p q =
     (ask-is rows kept nodes₁ memo₁ a nodes₁' memo₁' p).0 ∙ ap (ask_model rows kept) e ∙ sym (ask-is rows kept nodes₂ memo₂ b nodes₂' memo₂' q).0

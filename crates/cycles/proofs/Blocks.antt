@@ -8,18 +8,21 @@ use lib.ListN.{replicate}
 use Rattle.masks.specs.Sets.{bit, put, cut, those, lowest}
 use Rattle.graphs.specs.Graph.{edge, plain_from}
 use Rattle.graphs.proofs.Reach.{through, closure}
-use Rattle.graphs.proofs.Components.{around, leads, leading, components_of}
+use Rattle.graphs.specs.Coming.{around, leads, leading}
+use Rattle.graphs.proofs.Components.{components_of}
 use Rattle.trees.specs.Tree.{join_t, join_br, mk}
 use Rattle.cycles.specs.Search.{targets, visit}
 use Rattle.cycles.specs.Passes.{any, each}
 use Rattle.cycles.specs.declared.Asked.{Asked}
-use Rattle.cycles.specs.declared.Asked.TheVariants.{Yes, No, Refused}
+use Rattle.std.specs.Prelude.{Result, Err, true, false}
+use Rattle.graphs.proofs.Tables.{refusal_at}
+use Rattle.graphs.specs.declared.refusal.Refusal.{Refusal}
 use Rattle.cycles.specs.Work.{targets_l, visit_l}
 use Rattle.cycles.proofs.Logs.{order_of}
 use Rattle.cycles.proofs.PassTrees.{table, ors_after_t, ors_t, or_from, product_t, fill, at_flop_t, run, listed_t, result_t}
 use Rattle.cycles.proofs.Models.{run_of, functions_after, cycle_after, need_after}
 use Rattle.cycles.proofs.Fits.{fitting}
-use Rattle.cycles.proofs.Asks.{holds_t, ask_model}
+use Rattle.cycles.proofs.Asks.{asked_with, holds_t, ask_model}
 
 -- block A: edges 0>1, 1>2, 2>0, 2>3, 3>1
 abbrev pub block_a : List ℕ
@@ -29,26 +32,33 @@ block_a = 2 ∷ 4 ∷ 9 ∷ 2 ∷ []
 abbrev pub block_aa : List ℕ
 block_aa = 2 ∷ 4 ∷ 9 ∷ 2 ∷ 32 ∷ 64 ∷ 144 ∷ 32 ∷ []
 
-abbrev pub refused : ℕ → ℕ → Asked
-refused number place = Refused (record { number = number; place = place })
+-- yes or no, with the largest need; or a refusal by its number and place
+abbrev pub yes_with : ℕ → Result Asked Refusal
+yes_with need = asked_with true need
+
+abbrev pub no_with : ℕ → Result Asked Refusal
+no_with need = asked_with false need
+
+abbrev pub refused : ℕ → ℕ → Result Asked Refusal
+refused number place = Err (refusal_at number place)
 
 pub record Answers : Type 0 where
   -- "Ask A, kept {1, 2}: no. Kept {0, 1, 2}: yes (room 4,096)", with the need 15
-  pub a-no : ask_model block_a 6 4096 ≡ No 15
-  pub a-yes : ask_model block_a 7 4096 ≡ Yes 15
+  pub a-no : ask_model block_a 6 4096 ≡ no_with 15
+  pub a-yes : ask_model block_a 7 4096 ≡ yes_with 15
   -- room 15 is enough, 14 is not
-  pub a-full : ask_model block_a 7 15 ≡ Yes 15
-  pub a-full-no : ask_model block_a 6 15 ≡ No 15
+  pub a-full : ask_model block_a 7 15 ≡ yes_with 15
+  pub a-full-no : ask_model block_a 6 15 ≡ no_with 15
   pub a_small : ask_model block_a 7 14 ≡ refused 4 0
   -- a block whose need one more pass would raise to 9, and two copies of A
-  pub last-pass : ask_model (2 ∷ 5 ∷ 3 ∷ []) 7 8 ≡ Yes 8
-  pub two-parts : ask_model block_aa 224 15 ≡ Yes 15
-  pub two-parts-no : ask_model block_aa 102 15 ≡ No 15
+  pub last-pass : ask_model (2 ∷ 5 ∷ 3 ∷ []) 7 8 ≡ yes_with 8
+  pub two-parts : ask_model block_aa 224 15 ≡ yes_with 15
+  pub two-parts-no : ask_model block_aa 102 15 ≡ no_with 15
   -- four flip-flops without edges
-  pub no_edges : ask_model (0 ∷ 0 ∷ 0 ∷ 0 ∷ []) 6 15 ≡ No 0
+  pub no_edges : ask_model (0 ∷ 0 ∷ 0 ∷ 0 ∷ []) 6 15 ≡ no_with 0
   -- no flip-flops, and one with an edge to itself
-  pub empty : ask_model [] 0 0 ≡ No 0
-  pub self-edge : ask_model (1 ∷ []) 1 0 ≡ No 0
+  pub empty : ask_model [] 0 0 ≡ no_with 0
+  pub self-edge : ask_model (1 ∷ []) 1 0 ≡ no_with 0
   -- 65 rows; a row with a bit at the number of rows; a kept mask with one
   pub many : ask_model (replicate 65 0) 0 4096 ≡ refused 1 0
   pub wide_row : ask_model (2 ∷ 4 ∷ 9 ∷ 16 ∷ []) 6 4096 ≡ refused 3 3

@@ -2,35 +2,34 @@
 -- the need in use; and where it is full on the way, some of them need more than it has, so all of them do. Assumes nothing.
 use mathlib.Core.Path.{◌≡◌, refl, sym, ap, ap₂, ◌∙◌, subst, fun_ext}
 use mathlib.Core.Logic.{◌⊎◌, inl, inr, ⊎_elim}
-use mathlib.Core.Bool.{Bool, true, false, ◌&&◌}
+use mathlib.Core.Bool.{Bool, false, ◌&&◌}
 use mathlib.Core.List.{List, [], ◌++◌, map}
 use Prim.Native.Nat.{ℕ, suc, ◌≤◌, ◌<◌}
 use native.Mathlib.Omega.{arith}
 use lib.Count.{ones}
 use lib.Dec.{T}
 use lib.ListN.{length, get_or, replicate, get_or-replicate}
+use Rattle.std.specs.Prelude.{Result, Ok, Err, IsErr}
+use Rattle.std.proofs.lemmas.Bool.{false≢true}
 use Rattle.masks.specs.Sets.{bit, number}
 use Rattle.masks.proofs.Tests.{T_true, T_false}
 use Rattle.graphs.specs.Graph.{edge, Of}
 use Rattle.graphs.specs.Components.{Component, inside}
 use Rattle.graphs.specs.Work.{Sound}
-use Rattle.graphs.proofs.Lists.{Of-left, Of-right, Of-cases}
+use Rattle.graphs.proofs.Lists.{Of-left, Of-right, Of-cases, at_of}
 use Rattle.graphs.proofs.Components.{EdgesBelow, edges-below}
 use Rattle.trees.specs.Tree.{eval}
 use Rattle.trees.specs.Best.{Under}
 use Rattle.trees.specs.Need.{Need}
 use Rattle.trees.proofs.Canonical.{Good, canon}
 use Rattle.trees.proofs.Needs.{Within, need-within}
-use Rattle.nodes.specs.Codes.{Table}
-use Rattle.nodes.specs.Promise.{Memo}
 use Rattle.nodes.specs.Rooms.{used}
-use Rattle.nodes.specs.declared.Made.{Made}
-use Rattle.nodes.specs.declared.Made.TheVariants.{At, Full}
+use Rattle.nodes.specs.declared.Node.{Node}
+use Rattle.nodes.specs.declared.Full.{Full}
 use Rattle.nodes.proofs.Standing.{stands_good}
-use Rattle.nodes.proofs.Remembering.{memo-zero}
 use Rattle.cycles.specs.Passes.{each, ors, F, result, passes, listed, cycle, functions}
 use Rattle.cycles.specs.declared.search.Order.{Order}
-use Rattle.cycles.specs.Work.{Searched, Code, Shows, Holding, Added, Beyond, Lacking, Makes, Summable, any_of, ors_of, Summed, variables_of, VariablesPromise, back_in, pass_at, listed_before, Ready, Ended, PassesPromise, Buildable, TooSmall, BuildPromise}
+use Rattle.cycles.specs.Work.{node_of, Searched, Code, Shown, Holding, Added, Beyond, Lacking, Makes, any_of, ors_of, Summed, variables_of, VariablesPromise, back_in, pass_at, listed_before, ones_at_first, Ready, Ended, PassesPromise, TooSmall, BuildPromise}
 use Rattle.cycles.proofs.Searches.{member-lt, back-lt}
 use Rattle.cycles.proofs.Stops.{component-need-stops, cycle-stops, functions-stop}
 use Rattle.cycles.proofs.Models.{need_of, need_of-is, cycle_t, cycle-is, cycle-fine}
@@ -53,8 +52,11 @@ module _ (rows : List ℕ) (C : ℕ) (sound : Sound rows) (comp : Component (edg
   pub members-in : (v : ℕ) → T (bit C v) → v < n
   members-in = member-lt low comp
 
-  pub members-small : (v : ℕ) → T (bit C v) → v < 64
-  members-small v t = omega (arith, member-lt low comp v t, sound.few)
+  -- the order has members
+  pub inner-flops : (order : Order) → Searched E n C order → (k : ℕ) → k < length order.flops.items → get_or order.flops.items k 0 < 64
+  inner-flops order s k l =
+      let v = get_or order.flops.items k 0 in
+      omega (arith, member-lt low comp v ((s.order.members v).0 (at_of order.flops.items k l)), sound.few)
 
   -- the members of a set below n are those below 64
   below : (S : ℕ) → ((v : ℕ) → T (bit S v) → v < n) → (w : ℕ) → n ≤ w → bit S w ≡ false
@@ -100,7 +102,7 @@ module _ (rows : List ℕ) (C : ℕ) (sound : Sound rows) (comp : Component (edg
       need-within b.part (functions E n C) b.count (need_of E n C) (λ f q. w f (b.within f q)) b.need (need_of-is low comp) in
       (need_of E n C, need_of-is low comp, omega (arith, b.more))
 
-  lacking-build : {ws ws' : List ℕ} {L : List (ℕ → Bool)} → Holding ws [] → Within L (functions E n C) → Lacking ws ws' L → BuildPromise E n C ws' Full
+  lacking-build : {ws ws' : List ℕ} {L : List (ℕ → Bool)} → Holding ws [] → Within L (functions E n C) → Lacking ws ws' L → TooSmall E n C (length ws')
   lacking-build {ws} {ws'} {L} h w l = subst (TooSmall E n C) (sym l.size) (beyond-build (length ws) L w (l.beyond [] h))
 
   -- ---- enough passes
@@ -129,97 +131,90 @@ module _ (rows : List ℕ) (C : ℕ) (sound : Sound rows) (comp : Component (edg
 
   -- ---- in an emptied room
 
-  module _ (ws ms : List ℕ) (b : Buildable rows C ws ms) where
+  too-small : (ws : List ℕ) → TooSmall E n C (length ws) → (r : Result Node Full) → IsErr r → BuildPromise E n C ws r
+  too-small ws t (Ok c) e = absurd (false≢true e)
+  too-small ws t (Err f) e = t
+
+  module _ (ws : List ℕ) (small : length ws ≤ 65536) (is_empty : ws ≡ replicate (length ws) 0) where
     empty : Holding ws []
-    empty = subst (λ xs. Holding xs []) (sym b.room) (holding-none (length ws) b.small)
+    empty = subst (λ xs. Holding xs []) (sym is_empty) (holding-none (length ws) small)
 
-    pub begin-table : Table ws
-    begin-table = empty.room.table
+    pub variables-full : (ws₁ : List ℕ) (f : Full) → VariablesPromise ws ws₁ C (Err f) → (r : Result Node Full) → IsErr r → BuildPromise E n C ws₁ r
+    variables-full ws₁ f v =
+        too-small ws₁ (lacking-build empty (λ g m. early-in 0 (omega arith) g (Of-left g (variables_of C) (listed_before rows C 0) m)) v)
 
-    module _ (ws₁ codes : List ℕ) (x : Bool) (v : VariablesPromise ws ws₁ codes C x) where
-      pub variables-full : x ≡ false → BuildPromise E n C ws₁ Full
-      variables-full e =
-          lacking-build empty (λ f m. early-in 0 (omega arith) f (Of-left f (variables_of C) (listed_before rows C 0) m))
-          (subst (VariablesPromise ws ws₁ codes C) e v)
+    module _ (ws₁ : List ℕ) (variables : List Node) (vars : VariablesPromise ws ws₁ C (Ok variables)) (order : Order) (sources : List ℕ)
+        (s : Searched E n C order) (into : (v u : ℕ) → bit (get_or sources v 0) u ≡ inside E C u v) where
+      -- the first pass may begin: "F0 of each member of B is the constant 1"
+      pub first-ready : Ready rows C 0 ws₁ order sources variables ones_at_first
+      unfolding F
+      first-ready =
+          record {
+            wired = record { sound = sound; component = comp; searched = s; into = into };
+            given = vars.1;
+            last = λ u t.
+                let l : u < 64 = omega (arith, back-lt low comp u t, sound.few) in
+                subst (λ z. Code ws₁ z (λ K. bit B u)) (sym (ap (λ (x : Node). x.0) (get_or-replicate 64 u (node_of 1) (node_of 0) l)))
+                (subst (λ z. Code ws₁ 1 (λ K. z)) (sym (T_true (bit B u) t)) (code-on ws₁));
+          }
 
-      module _ (yes-x : x ≡ true) (order : Order) (sources : List ℕ) (s : Searched E n C order) (long : length codes ≡ 64)
-          (src : (length sources ≡ 64) × ((v u : ℕ) → bit (get_or sources v 0) u ≡ inside E C u v)) where
-        vars : Added ws ws₁ (variables_of C) × Shows ws₁ codes C (λ v K. bit K v)
-        vars = subst (VariablesPromise ws ws₁ codes C) yes-x v
+      abbrev Passes : List ℕ → Result (List Node) Full → Type 0
+      Passes ws₂ r = (rows : List ℕ) (C : ℕ) → Ready rows C 0 ws₁ order sources variables ones_at_first → PassesPromise rows C ws₁ ws₂ r
 
-        -- the first pass may begin: "F0 of each member of B is the constant 1"
-        pub first-ready : Ready rows C 0 ws₁ ms order sources codes (replicate 64 1)
-        unfolding F
-        first-ready =
-            record {
-              wired = record { sound = sound; component = comp; searched = s; into = src.1 };
-              long = (src.0, long, refl);
-              table = vars.0.table;
-              memo = subst (Memo ws₁) (sym b.memo) (memo-zero ws₁ (length ms));
-              given = vars.1;
-              last = λ u t.
-                  let l : u < 64 = omega (arith, back-lt low comp u t, sound.few) in
-                  subst (λ z. Code ws₁ z (λ K. bit B u)) (sym (get_or-replicate 64 u 1 0 l)) (subst (λ z. Code ws₁ 1 (λ K. z)) (sym (T_true (bit B u) t)) (code-on ws₁));
-            }
+      pub passes-full : (ws₂ : List ℕ) (f : Full) → Passes ws₂ (Err f) → (r : Result Node Full) → IsErr r → BuildPromise E n C ws₂ r
+      passes-full ws₂ f p =
+          let x = p rows C first-ready in
+          too-small ws₂ (lacking-build empty (early-in x.0 x.1) (lacking-more vars.0 x.2))
 
-        module _ (ws₂ ms₂ codes₂ : List ℕ) (y : Bool)
-            (f : (rows : List ℕ) (C : ℕ) → Ready rows C 0 ws₁ ms order sources codes (replicate 64 1) → PassesPromise rows C ws₁ ws₂ ms₂ codes₂ y) where
-          pub passes-full : y ≡ false → BuildPromise E n C ws₂ Full
-          passes-full e =
-              let r = subst (PassesPromise rows C ws₁ ws₂ ms₂ codes₂) e (f rows C first-ready) in
-              lacking-build empty (early-in r.0 r.1) (lacking-more vars.0 r.2)
+      module _ (ws₂ : List ℕ) (table : List Node) (p : Passes ws₂ (Ok table)) where
+        passed : (i : ℕ) × Ended rows C i ws₁ ws₂ table
+        passed = p rows C first-ready
 
-          module _ (yes-y : y ≡ true) where
-            passed : (i : ℕ) × Ended rows C i ws₁ ws₂ ms₂ codes₂
-            passed = subst (PassesPromise rows C ws₁ ws₂ ms₂ codes₂) yes-y (f rows C first-ready)
+        abbrev i : ℕ
+        i = passed.0
 
-            abbrev i : ℕ
-            i = passed.0
+        pub last-shown : Shown ws₂ table (number order.back)
+        last-shown = subst (Shown ws₂ table) (sym s.back) (record { given = pass_at rows C i; shown = passed.1.last })
 
-            pub last-summable : length codes₂ ≡ 64 → Summable ws₂ ms₂ codes₂ (number order.back)
-            last-summable l =
-                subst (Summable ws₂ ms₂ codes₂) (sym s.back)
-                (record { table = passed.1.added.table; memo = passed.1.memo; long = l; given = pass_at rows C i; shown = passed.1.last })
+        pub build-done : (ws₃ : List ℕ) (r : Result Node Full) → Summed ws₂ ws₃ table (number order.back) r → BuildPromise E n C ws₃ r
+        build-done ws₃ r q = go r (made.made (pass_at rows C i) passed.1.last)
+          where
+            made : Summed ws₂ ws₃ table B r
+            made = subst (λ S. Summed ws₂ ws₃ table S r) s.back q
 
-            pub build-done : (ws₃ ms₃ : List ℕ) (r : Made) → Summed ws₂ ws₃ ms₃ codes₂ (number order.back) r → BuildPromise E n C ws₃ r
-            build-done ws₃ ms₃ r q = go r (made.made (pass_at rows C i) passed.1.last)
+            so_far : Added ws ws₂ (variables_of C ++ listed_before rows C i)
+            so_far = added_more vars.0 passed.1.added
+
+            go : (r : Result Node Full) → Makes ws₂ ws₃ (ors_of B (pass_at rows C i)) (any_of B (pass_at rows C i)) r → BuildPromise E n C ws₃ r
+            go (Ok c) m =
+                record {
+                  table = all.table;
+                  tree = code.tree;
+                  stands = code.stands;
+                  ordered = good.ordered;
+                  under = subst (Under n) (sym same) (cycle-fine low comp (ones B)).under;
+                  is = value;
+                  need =
+                      enough-need i passed.1.within passed.1.enough (used ws₃)
+                      (subst (λ L. Need L (used ws₃)) (listed-are i) (holding-need (all.holds [] empty)));
+                }
               where
-                made : Summed ws₂ ws₃ ms₃ codes₂ B r
-                made = subst (λ S. Summed ws₂ ws₃ ms₃ codes₂ S r) s.back q
+                all : Added ws ws₃ (variables_of C ++ listed_before rows C i ++ ors_of B (pass_at rows C i))
+                all = added_more so_far m.0
 
-                so_far : Added ws ws₂ (variables_of C ++ listed_before rows C i)
-                so_far = added_more vars.0 passed.1.added
+                code : Code ws₃ c.0 (any_of B (pass_at rows C i))
+                code = m.1
 
-                go : (r : Made) → Makes ws₂ ws₃ (ors_of B (pass_at rows C i)) (any_of B (pass_at rows C i)) r → BuildPromise E n C ws₃ r
-                go (At c) m =
-                    record {
-                      table = all.table;
-                      tree = code.tree;
-                      stands = code.stands;
-                      ordered = good.ordered;
-                      under = subst (Under n) (sym same) (cycle-fine low comp (ones B)).under;
-                      is = value;
-                      need =
-                          enough-need i passed.1.within passed.1.enough (used ws₃)
-                          (subst (λ L. Need L (used ws₃)) (listed-are i) (holding-need (all.holds [] empty)));
-                    }
-                  where
-                    all : Added ws ws₃ (variables_of C ++ listed_before rows C i ++ ors_of B (pass_at rows C i))
-                    all = added_more so_far m.0
+                good : Good 0 code.tree
+                good = stands_good all.table code.stands
 
-                    code : Code ws₃ c.0 (any_of B (pass_at rows C i))
-                    code = m.1
+                value : (K : ℕ) → eval code.tree K ≡ cycle E n C K
+                value K = ap (λ g. g K) (code.is ∙ result-is i ∙ enough-cycle i passed.1.within passed.1.enough)
 
-                    good : Good 0 code.tree
-                    good = stands_good all.table code.stands
-
-                    value : (K : ℕ) → eval code.tree K ≡ cycle E n C K
-                    value K = ap (λ g. g K) (code.is ∙ result-is i ∙ enough-cycle i passed.1.within passed.1.enough)
-
-                    same : code.tree ≡ cycle_t E n C
-                    same =
-                        canon 0 0 code.tree (cycle_t E n C) good
-                        (cycle-fine low comp (ones B)).good (λ K. value K ∙ sym (cycle-is low comp K))
-                go Full m =
-                    lacking-build empty
-                    (λ g k. enough-in i passed.1.within passed.1.enough g (subst (Of g) (listed-are i) k)) (lacking-more so_far m)
+                same : code.tree ≡ cycle_t E n C
+                same =
+                    canon 0 0 code.tree (cycle_t E n C) good
+                    (cycle-fine low comp (ones B)).good (λ K. value K ∙ sym (cycle-is low comp K))
+            go (Err f) m =
+                lacking-build empty
+                (λ g k. enough-in i passed.1.within passed.1.enough g (subst (Of g) (listed-are i) k)) (lacking-more so_far m)

@@ -14,7 +14,7 @@ use lib.ListN.{length, length-append}
 use Rattle.masks.specs.Sets.{bit, pick, cut}
 use Rattle.masks.proofs.Tests.{T-or, or_l, or_r}
 use Rattle.masks.proofs.Bits.{bit-low, bit-suc, bit_high}
-use Rattle.masks.proofs.Members.{cut-add, cut-other}
+use Rattle.masks.proofs.PutCut.{cut-add, cut-other}
 use Rattle.graphs.specs.Graph.{Of, Differ}
 use Rattle.masks.proofs.Those.{members-lt}
 use Rattle.graphs.proofs.Lists.{Of-left, Of-right, Of-cases, differ-le}

@@ -7,7 +7,7 @@ use mathlib.Core.Bool.{Bool, true, false}
 use mathlib.Core.List.{List, [], ◌∷◌, ◌++◌, map, append_assoc, append-nil}
 use Prim.Native.Nat.{ℕ, ◌≤◌, ◌<◌}
 use native.Mathlib.Omega.{arith}
-use lib.ListN.{length, get_or, set, replicate}
+use lib.ListN.{length, set, replicate}
 use lib.Seq.{get_or-set_same, get_or-set_other}
 use Rattle.masks.specs.Sets.{bit}
 use Rattle.graphs.specs.Graph.{Of}
@@ -17,15 +17,16 @@ use Rattle.trees.specs.Need.{Need}
 use Rattle.trees.proofs.Canonical.{Good, good-var}
 use Rattle.trees.proofs.Joins.{join_t-good, join_t-eval}
 use Rattle.trees.proofs.Needs.{Within, need-trees, need-once}
-use Rattle.nodes.specs.Codes.{is_off, is_on, Table, Grows}
-use Rattle.nodes.specs.Promise.{Outcome, Memo, Joinable, Joined}
+use Rattle.std.specs.Prelude.{Result, Ok, Err}
+use Rattle.nodes.specs.Codes.{is_off, is_on, Held, Table, Grows}
+use Rattle.nodes.specs.Promise.{Outcome, Joined}
 use Rattle.nodes.specs.Rooms.{used}
-use Rattle.nodes.specs.declared.Made.{Made}
-use Rattle.nodes.specs.declared.Made.TheVariants.{At, Full}
+use Rattle.nodes.specs.declared.Node.{Node}
+use Rattle.nodes.specs.declared.Full.{Full}
 use Rattle.nodes.proofs.Slots.{grows_same, grows-more}
 use Rattle.nodes.proofs.Standing.{stands_one, stands-grows, stands_good, held}
 use Rattle.nodes.proofs.Listing.{room-zero, room-good, room-built, room-short, room-need}
-use Rattle.cycles.specs.Work.{Code, Shows, Holding, Added, Beyond, Lacking, Makes}
+use Rattle.cycles.specs.Work.{node_of, code_at, Code, Shows, Holding, Added, Beyond, Lacking, Makes}
 use Rattle.cycles.proofs.PassTrees.{var-eval}
 
 -- ---- codes
@@ -33,8 +34,8 @@ use Rattle.cycles.proofs.PassTrees.{var-eval}
 pub code-kept : {ws ws' : List ℕ} {c : ℕ} {f : ℕ → Bool} → Grows ws ws' → Code ws c f → Code ws' c f
 code-kept g p = record { tree = p.tree; stands = stands-grows g p.stands; is = p.is }
 
-pub shows_kept : {ws ws' : List ℕ} (codes : List ℕ) (S : ℕ) {g : ℕ → ℕ → Bool} → Grows ws ws' → Shows ws codes S g → Shows ws' codes S g
-shows_kept codes S k s v t = code-kept k (s v t)
+pub shows_kept : {ws ws' : List ℕ} (table : List Node) (S : ℕ) {g : ℕ → ℕ → Bool} → Grows ws ws' → Shows ws table S g → Shows ws' table S g
+shows_kept table S k s v t = code-kept k (s v t)
 
 -- a code stands for one function
 pub code_one : {ws : List ℕ} {c : ℕ} {f g : ℕ → Bool} → Code ws c f → Code ws c g → f ≡ g
@@ -47,17 +48,23 @@ pub code-on : (ws : List ℕ) → Code ws 1 (λ K. true)
 code-on ws = record { tree = on; stands = is_on refl; is = refl }
 
 -- a table with one code set: at its place, and at any other
-pub code-set : {ws : List ℕ} (codes codes' : List ℕ) (v c : ℕ) {f : ℕ → Bool} → v < length codes → codes' ≡ set codes v c → Code ws c f
-    → Code ws (get_or codes' v 0) f
-code-set {ws} codes codes' v c {f} l e p = subst (λ x. Code ws x f) (sym (ap (λ xs. get_or xs v 0) e ∙ get_or-set_same codes v c 0 l)) p
+pub code_at-same : (table table' : List Node) (v : ℕ) (d : Node) → v < length table → table' ≡ set table v d → code_at table' v ≡ d.0
+code_at-same table table' v d l e = ap (λ xs. code_at xs v) e ∙ ap (λ (x : Node). x.0) (get_or-set_same table v d (node_of 0) l)
 
-pub code_other : {ws : List ℕ} (codes codes' : List ℕ) (v c u : ℕ) {f : ℕ → Bool} → u ≢ v → codes' ≡ set codes v c → Code ws (get_or codes u 0) f
-    → Code ws (get_or codes' u 0) f
-code_other {ws} codes codes' v c u {f} k e p = subst (λ x. Code ws x f) (sym (ap (λ xs. get_or xs u 0) e ∙ get_or-set_other codes v u c 0 k)) p
+pub code_at-other : (table table' : List Node) (v : ℕ) (d : Node) (u : ℕ) → u ≢ v → table' ≡ set table v d → code_at table' u ≡ code_at table u
+code_at-other table table' v d u k e = ap (λ xs. code_at xs u) e ∙ ap (λ (x : Node). x.0) (get_or-set_other table v u d (node_of 0) k)
 
--- two functions in a room in order may be joined
-pub joinable : {ws ms : List ℕ} {a b : ℕ} {f g : ℕ → Bool} → Table ws → Memo ws ms → Code ws a f → Code ws b g → Joinable ws ms a b
-joinable t m p q = record { table = t; memo = m; left = held t p.stands; right = held t q.stands }
+pub code-set : {ws : List ℕ} (table table' : List Node) (v : ℕ) (d : Node) {f : ℕ → Bool} → v < length table → table' ≡ set table v d → Code ws d.0 f
+    → Code ws (code_at table' v) f
+code-set {ws} table table' v d {f} l e p = subst (λ x. Code ws x f) (sym (code_at-same table table' v d l e)) p
+
+pub code_other : {ws : List ℕ} (table table' : List Node) (v : ℕ) (d : Node) (u : ℕ) {f : ℕ → Bool} → u ≢ v → table' ≡ set table v d
+    → Code ws (code_at table u) f → Code ws (code_at table' u) f
+code_other {ws} table table' v d u {f} k e p = subst (λ x. Code ws x f) (sym (code_at-other table table' v d u k e)) p
+
+-- in a room in order a code of a function may be joined
+pub code-held : {ws : List ℕ} {c : ℕ} {f : ℕ → Bool} → Table ws → Code ws c f → Held ws 0 c
+code-held t p = held t p.stands
 
 -- ---- what a room holds
 
@@ -126,8 +133,8 @@ module _ (t : Tree) (f : ℕ → Bool) (g : Good 0 t) (e : eval t ≡ f) where
     λ m. ⊎_elim (λ k. inr ((s h).1 k)) (⊎_elim (λ q. inl (q ∙ sym e)) (λ k. absurd k)) (Of-cases h L (f ∷ []) m),
   )
 
-  pub makes_one : (ws ws' : List ℕ) (r : Made) → Outcome ws ws' t r → Makes ws ws' (f ∷ []) f r
-  makes_one ws ws' (At c) o = (
+  pub makes_one : (ws ws' : List ℕ) (r : Result Node Full) → Outcome ws ws' t r → Makes ws ws' (f ∷ []) f r
+  makes_one ws ws' (Ok c) o = (
     record {
       table = o.table;
       grows = o.grows;
@@ -136,7 +143,7 @@ module _ (t : Tree) (f : ℕ → Bool) (g : Good 0 t) (e : eval t ≡ f) where
     },
     record { tree = t; stands = o.stands; is = e },
   )
-  makes_one ws ws' Full o =
+  makes_one ws ws' (Err x) o =
       record {
         size = o.grows.size;
         beyond = λ L h.
@@ -150,11 +157,11 @@ module _ (t : Tree) (f : ℕ → Bool) (g : Good 0 t) (e : eval t ≡ f) where
       }
 
 -- the variable of v
-pub makes-variable : (ws ws' : List ℕ) (v : ℕ) (r : Made) → Outcome ws ws' (br v off on) r → Makes ws ws' ((λ K. bit K v) ∷ []) (λ K. bit K v) r
+pub makes-variable : (ws ws' : List ℕ) (v : ℕ) (r : Result Node Full) → Outcome ws ws' (br v off on) r → Makes ws ws' ((λ K. bit K v) ∷ []) (λ K. bit K v) r
 makes-variable ws ws' v = makes_one (br v off on) (λ K. bit K v) (good-var 0 v (omega arith)) (var-eval v) ws ws'
 
 -- the OR or the AND of two
-pub makes-join : (or : Bool) (ws ws' ms' : List ℕ) (a b : ℕ) (f g : ℕ → Bool) (r : Made) → Table ws → Code ws a f → Code ws b g → Joined or ws ws' ms' a b r
+pub makes-join : (or : Bool) (ws ws' ms' : List ℕ) (a b : ℕ) (f g : ℕ → Bool) (r : Result Node Full) → Table ws → Code ws a f → Code ws b g → Joined or ws ws' ms' a b r
     → Makes ws ws' ((λ K. op or (f K) (g K)) ∷ []) (λ K. op or (f K) (g K)) r
 makes-join or ws ws' ms' a b f g r t p q j =
     makes_one (join_t or p.tree q.tree) (λ K. op or (f K) (g K))

@@ -1,33 +1,30 @@
 -- The in-neighbours of each member inside its component, as rows that are set member by member. Assumes nothing.
-use mathlib.Core.Path.{◌≡◌, refl, sym, ap, ◌∙◌}
+use mathlib.Core.Path.{◌≡◌, refl, sym, ap, ◌∙◌, subst}
+use mathlib.Core.Logic.{◌≢◌}
 use mathlib.Core.Bool.{Bool, true, false, not, ◌&&◌}
 use mathlib.Core.List.{List}
-use Prim.Native.Nat.{ℕ, ◌+◌, ◌≤◌, ◌<◌}
+use Prim.Native.Nat.{ℕ, ◌<◌}
 use native.Mathlib.Omega.{arith}
 use native.Mathlib.Decide.{ℕ_discrete}
 use borrow.Author.Tests.{eq-eqb, ne_eqb}
 use lib.Dec.{T, eqb}
-use lib.ListN.{length, get_or, set}
-use Rattle.masks.specs.Sets.{bit, cut, lowest}
-use Rattle.masks.proofs.Tests.{T_true, T_false}
+use lib.ListN.{length, get_or, set, length-set}
+use lib.Seq.{get_or-set_same, get_or-set_other}
+use Rattle.masks.specs.Sets.{bit, cut}
+use Rattle.masks.specs.Walk.{IsLowestOf}
+use Rattle.masks.proofs.Tests.{T_true}
 use Rattle.masks.proofs.Bits.{bit-zero}
-use Rattle.masks.proofs.Members.{cut-same, cut-other}
-use Rattle.masks.proofs.Nexts.{onward, Next, next-is, next-after}
+use Rattle.masks.proofs.PutCut.{cut-same, cut-other, cut-from}
 use Rattle.graphs.specs.Graph.{edge}
 use Rattle.graphs.specs.Components.{inside}
 use Rattle.graphs.proofs.Lists.{all_alike}
 use Rattle.graphs.proofs.InPlace.{zeros}
-use Rattle.graphs.proofs.Turns.{Rowed, rowed-none, rowed-set, rowed-skip, rowed-all}
 
 -- r has the in-neighbours of v
 abbrev pub Incoming : List ℕ → ℕ → ℕ → ℕ → Type 0
 Incoming rows C v r = (u : ℕ) → bit r u ≡ inside (edge rows) C u v
 
 module _ (rows : List ℕ) (C v : ℕ) where
-  none : (x y z : Bool) → y ≡ false → ((x && y) && z) ≡ false
-  none true y z e = rw e
-  none false y z e = refl
-
   own : (x y : Bool) → (x && (false && y)) ≡ false
   own true y = refl
   own false y = refl
@@ -45,37 +42,43 @@ module _ (rows : List ℕ) (C v : ℕ) where
       go (yes q) = rw (q, cut-same held v, eq-eqb v v refl) (sym (own (bit C v && bit C v) (bit (get_or rows v 0) v)))
       go (no k) = rw (cut-other held v u k, h u, ne_eqb u v k, T_true (bit C v) t) (one (bit C u) (bit (get_or rows u 0) v))
 
-  incoming-none : (T (bit C v) → ⊥) → (r : ℕ) → r ≡ 0 → Incoming rows C v r
-  incoming-none k r e u = ap (λ x. bit x u) e ∙ bit-zero u ∙ sym (none (bit C u) (bit C v) (edge rows u v) (T_false _ k))
-
--- the members below v have theirs, and v is the next member or 64
-pub record Setting (rows : List ℕ) (C v : ℕ) (found : List ℕ) : Type 0 where
-  pub bounded : v ≤ 64
-  pub member : v < 64 → T (bit C v)
-  pub rowed : Rowed (Incoming rows C) (zeros 64) v found
+-- s has the members that are still to come; those that came have theirs, and the other rows are empty
+pub record Setting (rows : List ℕ) (C s : ℕ) (found : List ℕ) : Type 0 where
+  pub part : (v : ℕ) → T (bit s v) → T (bit C v)
+  pub long : length found ≡ 64
+  pub those : (v u : ℕ) → bit (get_or found v 0) u ≡ (not (bit s v) && inside (edge rows) C u v)
 
 module _ (rows : List ℕ) (C : ℕ) where
-  set_to : (i v : ℕ) (found : List ℕ) → i ≤ 64 → v ≡ lowest 64 (onward C i) → Rowed (Incoming rows C) (zeros 64) i found → Setting rows C v found
-  set_to i v found l e r =
-      let x : Next C i v = next-is C i v e in
+  pub set_first : (s : ℕ) → s ≡ C → Setting rows C s (zeros 64)
+  set_first s e =
       record {
-        bounded = x.bounded;
-        member = λ k. (x.found k).1;
-        rowed =
-            rowed-skip (Incoming rows C) (zeros 64) i v found (next-after l x) (λ u j k. incoming-none rows C u (x.passed u j k) _ (all_alike 0 64 u)) r;
+        part = λ v t. subst (λ z. T (bit z v)) e t;
+        long = refl;
+        those = λ v u. let z : get_or (zeros 64) v 0 ≡ 0 = all_alike 0 64 v in rw (z, bit-zero u, e) (sym (none (bit C u) (bit C v) (edge rows u v)));
       }
+    where
+      none : (x y z : Bool) → (not y && ((x && y) && z)) ≡ false
+      none x true z = refl
+      none true false z = refl
+      none false false z = refl
 
-  pub set_first : (v : ℕ) → v ≡ lowest 64 (onward C 0) → Setting rows C v (zeros 64)
-  set_first v e = set_to 0 v (zeros 64) (omega arith) e (rowed-none (Incoming rows C) (zeros 64))
+  -- a turn: v is taken from s, which leaves t
+  pub set_more : (s v t held r : ℕ) (found next : List ℕ) → IsLowestOf s v t → ((u : ℕ) → bit held u ≡ (bit C u && bit (get_or rows u 0) v)) → r ≡ cut held v
+      → next ≡ set found v r → Setting rows C s found → Setting rows C t next
+  set_more s v t held r found next taken h q w g =
+      record {
+        part = λ x i. g.part x (cut-from s v x (subst (λ z. T (bit z x)) taken.rest i)).1;
+        long = ap length w ∙ length-set found v r ∙ g.long;
+        those = λ x u. ap (λ (l : List ℕ). bit (get_or l x 0) u) w ∙ go x u (ℕ_discrete x v);
+      }
+    where
+      go : (x u : ℕ) → Dec (x ≡ v) → bit (get_or (set found v r) x 0) u ≡ (not (bit t x) && inside (edge rows) C u x)
+      go x u (yes e) =
+          let l : v < length found = omega (arith, taken.inner, g.long) in
+          rw (e, get_or-set_same found v r 0 l, taken.rest, cut-same s v) (incoming-at rows C v (g.part v taken.member) held r h q u)
+      go x u (no k) =
+          let k' : x ≢ v = k in
+          rw (get_or-set_other found v x r 0 k', taken.rest, cut-other s v x k') (g.those x u)
 
-  pub set_more : (v after held r : ℕ) (found next : List ℕ) → v < 64 → after ≡ lowest 64 (onward C (v + 1))
-      → ((u : ℕ) → bit held u ≡ (bit C u && bit (get_or rows u 0) v)) → r ≡ cut held v → next ≡ set found v r → Setting rows C v found → Setting rows C after next
-  set_more v after held r found next l e h q w s =
-      set_to (v + 1) after next (omega arith) e
-      (rowed-set (Incoming rows C) (zeros 64) v found next r l (incoming-at rows C v (s.member l) held r h q) w s.rowed)
-
-  pub set_all : (v : ℕ) (found : List ℕ) → length rows ≤ 64 → ((u : ℕ) → T (bit C u) → u < length rows) → 64 ≤ v → Setting rows C v found
-      → (u w : ℕ) → bit (get_or found u 0) w ≡ inside (edge rows) C w u
-  set_all v found few inner l s =
-      rowed-all (Incoming rows C) (zeros 64) v found
-      (λ u k. incoming-none rows C u (λ t. let j : u < length rows = inner u t in omega arith) _ (all_alike 0 64 u)) s.rowed
+  pub set_all : (s : ℕ) (found : List ℕ) → s ≡ 0 → Setting rows C s found → (v u : ℕ) → bit (get_or found v 0) u ≡ inside (edge rows) C u v
+  set_all s found z g v u = g.those v u ∙ ap (λ (x : Bool). not x && inside (edge rows) C u v) (ap (λ (m : ℕ). bit m v) z ∙ bit-zero v)

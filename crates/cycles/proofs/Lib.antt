@@ -12,6 +12,7 @@ pub mod PassTrees
 pub mod FineTrees
 pub mod Models
 pub mod Holdings
+pub mod Onward
 pub mod Sums
 pub mod Settles
 pub mod Passing

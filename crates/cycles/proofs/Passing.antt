@@ -10,8 +10,10 @@ use native.Mathlib.Omega.{arith}
 use native.Mathlib.Numerals.{add-one}
 use native.Mathlib.Decide.{ℕ_discrete}
 use lib.Dec.{T}
-use lib.ListN.{length, get_or, set, take, drop}
-use lib.Seq.{drop-cons, get_or-take, length-take-le}
+use lib.ListN.{length, length-set, get_or, set, drop}
+use lib.Seq.{drop-cons}
+use Rattle.std.specs.Prelude.{Result, Ok, Err, IsErr}
+use Rattle.std.proofs.lemmas.Bool.{false≢true}
 use Rattle.masks.specs.Sets.{bit, pick, number}
 use Rattle.masks.proofs.Tests.{T_false}
 use Rattle.graphs.specs.Graph.{edge, Of}
@@ -19,13 +21,12 @@ use Rattle.graphs.specs.Light.{left}
 use Rattle.graphs.specs.Components.{inside}
 use Rattle.graphs.proofs.Lists.{Of-left, Of-right, Of-cases}
 use Rattle.graphs.proofs.Components.{EdgesBelow, edges-below}
-use Rattle.nodes.specs.Promise.{Memo}
+use Rattle.nodes.specs.Codes.{Table}
 use Rattle.nodes.specs.declared.Node.{Node}
-use Rattle.nodes.specs.declared.Made.{Made}
-use Rattle.nodes.specs.declared.Made.TheVariants.{At, Full}
+use Rattle.nodes.specs.declared.Full.{Full}
 use Rattle.cycles.specs.Passes.{any, each, joined, ors, handed, at_flop}
 use Rattle.cycles.specs.declared.search.Order.{Order}
-use Rattle.cycles.specs.Work.{Later, Code, Shows, Added, Lacking, Makes, Summable, ors_of, and_of, IsVariable, Multiplied, Wired, back_in, pass_at, listed_in, Ready, Passed}
+use Rattle.cycles.specs.Work.{Later, code_at, Code, Shows, Shown, Added, Makes, ors_of, and_of, IsVariable, Multiplied, Wired, back_in, pass_at, listed_in, Ready, Passed, PassPromise}
 use Rattle.cycles.proofs.Each.{any-ext, each-ext, each-iff}
 use Rattle.cycles.proofs.Searches.{member-lt, back-within, back-meets}
 use Rattle.cycles.proofs.Passes.{inside-source, pass-is}
@@ -83,7 +84,7 @@ module _ (rows : List ℕ) (C : ℕ) (order : Order) (sources : List ℕ) (w : W
   B = back_in rows C
 
   abbrev xs : List ℕ
-  xs = take order.count order.flops
+  xs = order.flops.items
 
   low : EdgesBelow (edge rows) n
   low = edges-below rows w.sound.fit
@@ -119,26 +120,25 @@ module _ (rows : List ℕ) (C : ℕ) (order : Order) (sources : List ℕ) (w : W
 -- ---- the loop
 
 -- of the flip-flops from place k on: what they list was made, and the tables have what they have in this pass
-pub record Passing (rows : List ℕ) (C : ℕ) (order : Order) (i : ℕ) (ws₀ : List ℕ) (k : ℕ) (ws ms codes next : List ℕ) : Type 0 where
-  pub added : Added ws₀ ws (joined (map (at_flop (inside (edge rows) C) (length rows) (back_in rows C) i) (drop k (take order.count order.flops))))
-  pub memo : Memo ws ms
-  pub last : Shows ws codes (back_in rows C) (pass_at rows C i)
-  pub others : (v : ℕ) → Of v (drop k (take order.count order.flops)) → T (left (back_in rows C) v) → Code ws (get_or codes v 0) (pass_at rows C (suc i) v)
-  pub fresh : (v : ℕ) → Of v (drop k (take order.count order.flops)) → T (bit (back_in rows C) v) → Code ws (get_or next v 0) (pass_at rows C (suc i) v)
+pub record Passing (rows : List ℕ) (C : ℕ) (order : Order) (i : ℕ) (ws₀ : List ℕ) (k : ℕ) (ws : List ℕ) (table next : List Node) : Type 0 where
+  pub added : Added ws₀ ws (joined (map (at_flop (inside (edge rows) C) (length rows) (back_in rows C) i) (drop k order.flops.items)))
+  pub long : (length table ≡ 64) × (length next ≡ 64)
+  pub last : Shows ws table (back_in rows C) (pass_at rows C i)
+  pub others : (v : ℕ) → Of v (drop k order.flops.items) → T (left (back_in rows C) v) → Code ws (code_at table v) (pass_at rows C (suc i) v)
+  pub fresh : (v : ℕ) → Of v (drop k order.flops.items) → T (bit (back_in rows C) v) → Code ws (code_at next v) (pass_at rows C (suc i) v)
 
-drop-taken : (k : ℕ) (vs : List ℕ) → drop k (take k vs) ≡ []
-drop-taken zero vs = refl
-drop-taken (suc k) [] = refl
-drop-taken (suc k) (v ∷ vs) = drop-taken k vs
+drop-all : (vs : List ℕ) → drop (length vs) vs ≡ []
+drop-all [] = refl
+drop-all (v ∷ vs) = drop-all vs
 
-module _ (rows : List ℕ) (C i : ℕ) (ws₀ ms₀ : List ℕ) (order : Order) (sources variables codes₀ : List ℕ)
-    (r : Ready rows C i ws₀ ms₀ order sources variables codes₀) where
+module _ (rows : List ℕ) (C i : ℕ) (ws₀ : List ℕ) (order : Order) (sources : List ℕ) (variables table₀ : List Node)
+    (r : Ready rows C i ws₀ order sources variables table₀) where
   abbrev wires : Wired rows C order sources
   wires = r.wired
 
   -- the list, and what one flip-flop lists
   abbrev flops : List ℕ
-  flops = take order.count order.flops
+  flops = order.flops.items
 
   abbrev lists : ℕ → List (ℕ → Bool)
   lists = at_flop (inside (edge rows) C) (length rows) (back_in rows C) i
@@ -151,36 +151,34 @@ module _ (rows : List ℕ) (C i : ℕ) (ws₀ ms₀ : List ℕ) (order : Order) 
     λ m. (wires.searched.order.members u).1 ((each-iff (length rows) (bit C) u).0 m).1,
   )
 
-  pub pass-none : (next : List ℕ) → Passing rows C order i ws₀ order.count ws₀ ms₀ codes₀ next
-  pass-none next =
-      let e : drop order.count flops ≡ [] = drop-taken order.count order.flops in
+  pub pass-none : (k : ℕ) → k ≡ length order.flops.items → (next : List Node) → Table ws₀ → length table₀ ≡ 64 → length next ≡ 64
+      → Passing rows C order i ws₀ k ws₀ table₀ next
+  pass-none k all next t l m =
+      let e : drop k flops ≡ [] = ap (λ j. drop j flops) all ∙ drop-all flops in
       record {
-        added = subst (λ vs. Added ws₀ ws₀ (joined (map lists vs))) (sym e) (added_none r.table);
-        memo = r.memo;
+        added = subst (λ vs. Added ws₀ ws₀ (joined (map lists vs))) (sym e) (added_none t);
+        long = (l, m);
         last = r.last;
         others = λ v m. absurd (subst (Of v) e m);
         fresh = λ v m. absurd (subst (Of v) e m);
       }
 
-  -- the flip-flop before place k
-  module _ (k : ℕ) (ws ms codes next : List ℕ) (some : 0 < k) (inner : k ≤ order.count) (p : Passing rows C order i ws₀ k ws ms codes next) where
+  -- the flip-flop v before place k
+  module _ (k : ℕ) (ws : List ℕ) (table next : List Node) (some : 0 < k) (inner : k ≤ length order.flops.items) (p : Passing rows C order i ws₀ k ws table next)
+      (v : ℕ) (before : v ≡ get_or order.flops.items (k - 1) 0) where
     abbrev j : ℕ
     j = k - 1
-
-    abbrev v : ℕ
-    v = get_or order.flops j 0
 
     -- it stands before the others
     here : drop j flops ≡ v ∷ drop k flops
     here =
-        drop-cons flops j 0 l
-        ∙ ap₂ (λ x m. x ∷ drop m flops) (get_or-take order.count order.flops j 0 (omega arith)) (sym (add-one j) ∙ down)
+        drop-cons flops j 0 l ∙ ap₂ (λ x m. x ∷ drop m flops) (sym before) (sym (add-one j) ∙ down)
       where
         down : j + 1 ≡ k
         down = omega arith
 
         l : j < length flops
-        l = omega (arith, length-take-le order.count order.flops (omega (arith, wires.searched.long, wires.searched.few, wires.sound.few)))
+        l = omega arith
 
     member : T (bit C v)
     member = (wires.searched.order.members v).0 (of-drop flops j v (subst (Of v) (sym here) (inl refl)))
@@ -189,7 +187,7 @@ module _ (rows : List ℕ) (C i : ℕ) (ws₀ ms₀ : List ℕ) (order : Order) 
     below = omega (arith, member-lt (edges-below rows wires.sound.fit) wires.component v member, wires.sound.few)
 
     -- what its in-neighbours hand on
-    pub hands : Shows ws codes (get_or sources v 0) (handed (inside (edge rows) C) (length rows) (back_in rows C) i)
+    pub hands : Shows ws table (get_or sources v 0) (handed (inside (edge rows) C) (length rows) (back_in rows C) i)
     hands u t = go (bit (back_in rows C) u) (p.last u) (λ b. p.others u (after b) b)
       where
         after : T (left (back_in rows C) u) → Of u (drop k flops)
@@ -197,107 +195,101 @@ module _ (rows : List ℕ) (C i : ℕ) (ws₀ ms₀ : List ℕ) (order : Order) 
             (subst (Later (inside (edge rows) C) (back_in rows C)) here
             (later-drop (inside (edge rows) C) (back_in rows C) flops j wires.searched.order.later)).0 u (subst T (wires.into v u) t) b
 
-        go : (x : Bool) → (T x → Code ws (get_or codes u 0) (pass_at rows C i u)) → (T (not x) → Code ws (get_or codes u 0) (pass_at rows C (suc i) u))
-            → Code ws (get_or codes u 0) (pick x (pass_at rows C i u) (pass_at rows C (suc i) u))
+        go : (x : Bool) → (T x → Code ws (code_at table u) (pass_at rows C i u)) → (T (not x) → Code ws (code_at table u) (pass_at rows C (suc i) u))
+            → Code ws (code_at table u) (pick x (pass_at rows C i u) (pass_at rows C (suc i) u))
         go true f g = f tt
         go false f g = g tt
 
-    variable : IsVariable ws (get_or variables v 0) v
+    variable : IsVariable ws (code_at variables v) v
     variable = code-kept p.added.grows (r.given v member)
 
     -- so its product may be made
-    pub may : (c S : ℕ) → c ≡ get_or variables v 0 → S ≡ get_or sources v 0 → length codes ≡ length codes₀
-        → Summable ws ms codes S × ((u : ℕ) × IsVariable ws c u)
-    may c S is_code is_row l = (
-      subst (Summable ws ms codes) (sym is_row)
-          (record {
-            table = p.added.table;
-            memo = p.memo;
-            long = l ∙ r.long.2;
-            given = handed (inside (edge rows) C) (length rows) (back_in rows C) i;
-            shown = hands;
-          }),
-      (v, subst (λ x. IsVariable ws x v) (sym is_code) variable),
-    )
+    pub may-join : (c : ℕ) → c ≡ code_at variables v → (u : ℕ) × IsVariable ws c u
+    may-join c is_code = (v, subst (λ x. IsVariable ws x v) (sym is_code) variable)
+
+    pub may-sum : (S : ℕ) → S ≡ get_or sources v 0 → Shown ws table S
+    may-sum S is_row =
+        subst (Shown ws table) (sym is_row) (record { given = handed (inside (edge rows) C) (length rows) (back_in rows C) i; shown = hands })
 
     -- the product of this flip-flop, with what it lists
-    module _ (ws' ms' : List ℕ) (c S : ℕ) (made : Made) (is_code : c ≡ get_or variables v 0) (is_row : S ≡ get_or sources v 0)
-        (m : Multiplied ws ws' ms' codes c S made) where
+    module _ (ws' : List ℕ) (c S : ℕ) (made : Result Node Full) (is_code : c ≡ code_at variables v) (is_row : S ≡ get_or sources v 0)
+        (m : Multiplied ws ws' table c S made) where
       makes : Makes ws ws' (lists v) (pass_at rows C (suc i) v) made
       makes =
           subst₂ (λ L f. Makes ws ws' L f made) (listed-is rows C order sources wires i v) (product_is rows C order sources wires i v)
           (at_row.made v (handed (inside (edge rows) C) (length rows) (back_in rows C) i) (subst (λ z. IsVariable ws z v) (sym is_code) variable) hands)
         where
-          at_row : Multiplied ws ws' ms' codes c (get_or sources v 0) made
-          at_row = subst (λ z. Multiplied ws ws' ms' codes c z made) is_row m
+          at_row : Multiplied ws ws' table c (get_or sources v 0) made
+          at_row = subst (λ z. Multiplied ws ws' table c z made) is_row m
 
-      pub pass-full : made ≡ Full → Lacking ws₀ ws' (listed_in rows C i)
-      pass-full e =
-          lacking-in all (lacking-more p.added (subst (Makes ws ws' (lists v) (pass_at rows C (suc i) v)) e makes))
+    pub pass-full : (ws' : List ℕ) (c S : ℕ) (f : Full) → c ≡ code_at variables v → S ≡ get_or sources v 0 → Multiplied ws ws' table c S (Err f)
+        → (table' next' : List Node) (x : Result Unit Full) → IsErr x → PassPromise rows C i ws₀ ws' table' next' x
+    pass-full ws' c S f is_code is_row m table' next' (Ok x) e = absurd (false≢true e)
+    pass-full ws' c S f is_code is_row m table' next' (Err x) e = lacking-in all (lacking-more p.added (makes ws' c S (Err f) is_code is_row m))
+      where
+        all : (f : ℕ → Bool) → Of f (joined (map lists (drop k flops)) ++ lists v) → Of f (listed_in rows C i)
+        all f q =
+            (joined_same lists flops (each (length rows) (bit C)) same-flops f).0
+            ((joined_of lists flops f).1
+            (⊎_elim (λ a. let x = (joined_of lists (drop k flops) f).0 a in (x.0, of-drop flops k x.0 x.1, x.2))
+            (λ a. (v, of-drop flops j v (subst (Of v) (sym here) (inl refl)), a)) (Of-cases f (joined (map lists (drop k flops))) (lists v) q)))
+
+    module _ (ws' : List ℕ) (c S : ℕ) (d : Node) (is_code : c ≡ code_at variables v) (is_row : S ≡ get_or sources v 0)
+        (m : Multiplied ws ws' table c S (Ok d)) where
+      one : Added ws ws' (lists v) × Code ws' d.0 (pass_at rows C (suc i) v)
+      one = makes ws' c S (Ok d) is_code is_row m
+
+      added' : Added ws₀ ws' (joined (map lists (drop j flops)))
+      added' =
+          subst (λ vs. Added ws₀ ws' (joined (map lists vs))) (sym here)
+          (added-same (swap-of (joined (map lists (drop k flops))) (lists v)) (added_more p.added one.0))
+
+      -- a flip-flop from here on is this one, or one of the others
+      again : {P : ℕ → Type 0} → P v → ((u : ℕ) → u ≢ v → Of u (drop k flops) → P u) → (u : ℕ) → Of u (drop j flops) → P u
+      again {P} f g u q = go (ℕ_discrete u v) (subst (Of u) here q)
         where
-          all : (f : ℕ → Bool) → Of f (joined (map lists (drop k flops)) ++ lists v) → Of f (listed_in rows C i)
-          all f q =
-              (joined_same lists flops (each (length rows) (bit C)) same-flops f).0
-              ((joined_of lists flops f).1
-              (⊎_elim (λ a. let x = (joined_of lists (drop k flops) f).0 a in (x.0, of-drop flops k x.0 x.1, x.2))
-              (λ a. (v, of-drop flops j v (subst (Of v) (sym here) (inl refl)), a)) (Of-cases f (joined (map lists (drop k flops))) (lists v) q)))
+          go : Dec (u ≡ v) → Of u (v ∷ drop k flops) → P u
+          go (yes b) a = subst P (sym b) f
+          go (no b) (inl a) = absurd (b a)
+          go (no b) (inr a) = g u b a
 
-      module _ (d : Node) (e : made ≡ At d) where
-        one : Added ws ws' (lists v) × Code ws' d.0 (pass_at rows C (suc i) v)
-        one = subst (Makes ws ws' (lists v) (pass_at rows C (suc i) v)) e makes
+      -- where it is in B
+      pub pass-back : (next' : List Node) (x : Bool) → x ≡ bit (number order.back) v → x ≡ true → next' ≡ set next v d
+          → Passing rows C order i ws₀ j ws' table next'
+      pass-back next' x is_back took q =
+          let b : bit (back_in rows C) v ≡ true = ap (λ S. bit S v) (sym wires.searched.back) ∙ sym is_back ∙ took in
+          record {
+            added = added';
+            long = (p.long.0, ap length q ∙ length-set next v d ∙ p.long.1);
+            last = shows_kept table (back_in rows C) one.0.grows p.last;
+            others = again (λ t. absurd (subst T (ap not b) t)) (λ u k a t. code-kept one.0.grows (p.others u a t));
+            fresh =
+                again (λ t. code-set next next' v d (omega (arith, below, p.long.1)) q one.1)
+                (λ u k a t. code_other next next' v d u k q (code-kept one.0.grows (p.fresh u a t)));
+          }
 
-        added' : Added ws₀ ws' (joined (map lists (drop j flops)))
-        added' =
-            subst (λ vs. Added ws₀ ws' (joined (map lists vs))) (sym here)
-            (added-same (swap-of (joined (map lists (drop k flops))) (lists v)) (added_more p.added one.0))
+      -- where it is not
+      pub pass-other : (table' : List Node) (x : Bool) → x ≡ bit (number order.back) v → x ≡ false → table' ≡ set table v d
+          → Passing rows C order i ws₀ j ws' table' next
+      pass-other table' x is_back left_it q =
+          let b : bit (back_in rows C) v ≡ false = ap (λ S. bit S v) (sym wires.searched.back) ∙ sym is_back ∙ left_it in
+          record {
+            added = added';
+            long = (ap length q ∙ length-set table v d ∙ p.long.0, p.long.1);
+            last = λ u t.
+                code_other table table' v d u (λ z. subst T (ap (bit (back_in rows C)) z ∙ b) t) q (code-kept one.0.grows (p.last u t));
+            others =
+                again (λ t. code-set table table' v d (omega (arith, below, p.long.0)) q one.1)
+                (λ u k a t. code_other table table' v d u k q (code-kept one.0.grows (p.others u a t)));
+            fresh = again (λ t. absurd (subst T b t)) (λ u k a t. code-kept one.0.grows (p.fresh u a t));
+          }
 
-        -- a flip-flop from here on is this one, or one of the others
-        again : {P : ℕ → Type 0} → P v → ((u : ℕ) → u ≢ v → Of u (drop k flops) → P u) → (u : ℕ) → Of u (drop j flops) → P u
-        again {P} f g u q = go (ℕ_discrete u v) (subst (Of u) here q)
-          where
-            go : Dec (u ≡ v) → Of u (v ∷ drop k flops) → P u
-            go (yes b) a = subst P (sym b) f
-            go (no b) (inl a) = absurd (b a)
-            go (no b) (inr a) = g u b a
-
-        -- where it is in B
-        pub pass-back : (next' : List ℕ) (x : Bool) → length next ≡ 64 → x ≡ bit (number order.back) v → x ≡ true → next' ≡ set next v d.0
-            → Passing rows C order i ws₀ j ws' ms' codes next'
-        pass-back next' x long-next is_back took q =
-            let b : bit (back_in rows C) v ≡ true = ap (λ S. bit S v) (sym wires.searched.back) ∙ sym is_back ∙ took in
-            record {
-              added = added';
-              memo = m.memo;
-              last = shows_kept codes (back_in rows C) one.0.grows p.last;
-              others = again (λ t. absurd (subst T (ap not b) t)) (λ u k a t. code-kept one.0.grows (p.others u a t));
-              fresh =
-                  again (λ t. code-set next next' v d.0 (omega (arith, below)) q one.1)
-                  (λ u k a t. code_other next next' v d.0 u k q (code-kept one.0.grows (p.fresh u a t)));
-            }
-
-        -- where it is not
-        pub pass-other : (codes' : List ℕ) (x : Bool) → length codes ≡ length codes₀ → x ≡ bit (number order.back) v → x ≡ false
-            → codes' ≡ set codes v d.0 → Passing rows C order i ws₀ j ws' ms' codes' next
-        pass-other codes' x long-codes is_back left_it q =
-            let b : bit (back_in rows C) v ≡ false = ap (λ S. bit S v) (sym wires.searched.back) ∙ sym is_back ∙ left_it in
-            record {
-              added = added';
-              memo = m.memo;
-              last = λ u t.
-                  code_other codes codes' v d.0 u (λ z. subst T (ap (bit (back_in rows C)) z ∙ b) t) q (code-kept one.0.grows (p.last u t));
-              others =
-                  again (λ t. code-set codes codes' v d.0 (omega (arith, below, r.long.2)) q one.1)
-                  (λ u k a t. code_other codes codes' v d.0 u k q (code-kept one.0.grows (p.others u a t)));
-              fresh = again (λ t. absurd (subst T b t)) (λ u k a t. code-kept one.0.grows (p.fresh u a t));
-            }
-
-  pub pass-done : (k : ℕ) (ws ms codes next : List ℕ) → k ≡ 0 → Passing rows C order i ws₀ k ws ms codes next → Passed rows C i ws₀ ws ms codes next
-  pass-done k ws ms codes next e p =
+  pub pass-done : (k : ℕ) (ws : List ℕ) (table next : List Node) → k ≡ 0 → Passing rows C order i ws₀ k ws table next → Passed rows C i ws₀ ws table next
+  pass-done k ws table next e p =
       record {
         added =
             added-same (joined_same lists flops (each (length rows) (bit C)) same-flops)
             (subst (λ m. Added ws₀ ws (joined (map lists (drop m flops)))) e p.added);
-        memo = p.memo;
         last = p.last;
         next = λ v t. p.fresh v (subst (λ m. Of v (drop m flops)) (sym e) (of-back v t)) t;
       }

@@ -1,30 +1,32 @@
--- The variables of a set, made one after the other, and the members of B taken over from one pass into the next: what is known after the members below v.
+-- The variables of a set, made one after the other, and the members of B taken over from one pass into the next: what is known while some members are left.
 -- Assumes nothing.
 use mathlib.Core.Path.{◌≡◌, refl, sym, ap, ◌∙◌, subst}
 use mathlib.Core.Logic.{◌≢◌}
-use mathlib.Core.Bool.{Bool, true, false}
+use mathlib.Core.Bool.{Bool, true}
 use mathlib.Core.List.{List, [], ◌∷◌, ◌++◌, map}
-use Prim.Native.Nat.{ℕ, suc, ◌+◌, ◌≤◌, ◌<◌}
+use Prim.Native.Nat.{ℕ, suc, ◌<◌}
 use native.Mathlib.Omega.{arith}
-use native.Mathlib.Numerals.{add-one}
+use Rattle.std.proofs.lemmas.Bool.{false≢true}
 use native.Mathlib.Decide.{ℕ_discrete, dec_lt}
 use lib.Dec.{T}
-use lib.ListN.{length, get_or, set, length-set}
-use lib.Seq.{get_or-set_same, get_or-set_other}
-use Rattle.masks.specs.Sets.{bit, lowest}
+use lib.ListN.{length, set, length-set}
+use Rattle.std.specs.Prelude.{Result, Ok, Err, IsErr}
+use Rattle.masks.specs.Sets.{bit}
+use Rattle.masks.specs.Walk.{IsLowestOf}
 use Rattle.masks.proofs.Tests.{T_false}
-use Rattle.masks.proofs.Nexts.{onward, Next, next-is, next-after}
+use Rattle.masks.proofs.Bits.{zero-member}
+use Rattle.masks.proofs.PutCut.{cut-from, cut_keeps}
 use Rattle.graphs.specs.Graph.{Of}
 use Rattle.graphs.proofs.Lists.{Of-left, map-append}
 use Rattle.trees.specs.Tree.{off, on, br}
 use Rattle.nodes.specs.Codes.{Table}
 use Rattle.nodes.specs.Promise.{Outcome}
 use Rattle.nodes.specs.declared.Node.{Node}
-use Rattle.nodes.specs.declared.Made.{Made}
-use Rattle.nodes.specs.declared.Made.TheVariants.{At, Full}
+use Rattle.nodes.specs.declared.Full.{Full}
 use Rattle.cycles.specs.Passes.{each}
-use Rattle.cycles.specs.Work.{Code, Added, Makes, VariablesPromise, Settling}
-use Rattle.cycles.proofs.Holdings.{code-kept, code-set, code_other, added_none, added_more, lacking-in, lacking-more, makes-variable}
+use Rattle.cycles.specs.Work.{code_at, Code, Added, Makes, VariablesPromise, Settling}
+use Rattle.cycles.proofs.Holdings.{code_at-same, code_at-other, code-kept, code-set, code_other, added_none, added_more, lacking-in, lacking-more, makes-variable}
+use Rattle.cycles.proofs.Onward.{From, from-all, from-none, from-member, from-passed, from-next}
 use Rattle.cycles.proofs.Sums.{each-skip, each_more, each_next}
 
 -- ---- the variables
@@ -35,128 +37,123 @@ var_at v K = bit K v
 abbrev pub vars_below : ℕ → ℕ → List (ℕ → Bool)
 vars_below v S = map (λ w K. bit K w) (each v (bit S))
 
--- v is the next member, or 64
-pub record Varying (ws₀ : List ℕ) (S : ℕ) (ws codes : List ℕ) (v : ℕ) : Type 0 where
-  pub bounded : v ≤ 64
-  pub member : v < 64 → T (bit S v)
-  pub long : length codes ≡ 64
-  pub added : Added ws₀ ws (vars_below v S)
-  pub shown : (w : ℕ) → w < v → T (bit S w) → Code ws (get_or codes w 0) (λ K. bit K w)
+-- s has the members that are left
+pub record Varying (ws₀ : List ℕ) (S : ℕ) (ws : List ℕ) (table : List Node) (s : ℕ) : Type 0 where
+  pub from : ℕ
+  pub left : From S from s
+  pub long : length table ≡ 64
+  pub added : Added ws₀ ws (vars_below from S)
+  pub shown : (w : ℕ) → w < from → T (bit S w) → Code ws (code_at table w) (λ K. bit K w)
 
 module _ (ws₀ : List ℕ) (S : ℕ) where
-  vary-to : (i v : ℕ) (ws codes : List ℕ) → i ≤ 64 → v ≡ lowest 64 (onward S i) → length codes ≡ 64 → Added ws₀ ws (vars_below i S)
-      → ((w : ℕ) → w < i → T (bit S w) → Code ws (get_or codes w 0) (λ K. bit K w)) → Varying ws₀ S ws codes v
-  vary-to i v ws codes b e l a h =
-      let x : Next S i v = next-is S i v e in
-      let out : (w : ℕ) → i ≤ w → w < v → bit S w ≡ false = λ w j k. T_false (bit S w) (x.passed w j k) in
-      record {
-        bounded = x.bounded;
-        member = λ k. (x.found k).1;
-        long = l;
-        added = subst (λ xs. Added ws₀ ws (map (λ w K. bit K w) xs)) (sym (each-skip (bit S) i v (next-after b x) out)) a;
-        shown = λ w k t. below x w k t (dec_lt w i);
-      }
-    where
-      below : Next S i v → (w : ℕ) → w < v → T (bit S w) → Dec (w < i) → Code ws (get_or codes w 0) (λ K. bit K w)
-      below x w k t (yes j) = h w j t
-      below x w k t (no j) =
-          let j' : ¬ (w < i) = j in
-          absurd (x.passed w (omega arith) k t)
-
-  pub vary-none : (v : ℕ) (codes : List ℕ) → Table ws₀ → length codes ≡ 64 → v ≡ lowest 64 (onward S 0) → Varying ws₀ S ws₀ codes v
+  pub vary-none : (table : List Node) (s : ℕ) → Table ws₀ → length table ≡ 64 → s ≡ S → Varying ws₀ S ws₀ table s
   unfolding each
-  vary-none v codes t l e = vary-to 0 v ws₀ codes (omega arith) e l (added_none t) (λ w k. absurd (omega arith))
+  vary-none table s t l e = record { from = 0; left = from-all e; long = l; added = added_none t; shown = λ w k. absurd (omega arith) }
 
-  module _ (v : ℕ) (ws codes : List ℕ) (l : v < 64) (p : Varying ws₀ S ws codes v) (ws' : List ℕ) (r : Made) (o : Outcome ws ws' (br v off on) r) where
-    vars-next : vars_below (suc v) S ≡ vars_below v S ++ ((λ K. bit K v) ∷ [])
-    vars-next = ap (map (λ w K. bit K w)) (each_next S v (p.member l)) ∙ map-append (λ w K. bit K w) (each v (bit S)) (v ∷ [])
+  -- u is taken, which leaves t
+  module _ (ws : List ℕ) (table : List Node) (s : ℕ) (p : Varying ws₀ S ws table s) (u t : ℕ) (taken : IsLowestOf s u t) (ws' : List ℕ) where
+    member : T (bit S u)
+    member = (from-member p.left taken).1
 
-    pub vary-step : (d : Node) (codes' : List ℕ) (after : ℕ) → r ≡ At d → codes' ≡ set codes v d.0 → after ≡ lowest 64 (onward S (v + 1))
-        → Varying ws₀ S ws' codes' after
-    vary-step d codes' after q c e =
-        let m = subst (Makes ws ws' (var_at v ∷ []) (var_at v)) q (makes-variable ws ws' v r o) in
-        vary-to (v + 1) after ws' codes' (omega arith) e (ap length c ∙ length-set codes v d.0 ∙ p.long)
-        (subst (λ n. Added ws₀ ws' (vars_below n S)) (sym (add-one v)) (subst (Added ws₀ ws') (sym vars-next) (added_more p.added m.0)))
-        (λ w k t. at w k t m.0 m.1 (ℕ_discrete w v))
+    so_far : Added ws₀ ws (vars_below u S)
+    so_far =
+        subst (λ xs. Added ws₀ ws (map (λ w K. bit K w) xs))
+        (sym (each-skip (bit S) p.from u (from-member p.left taken).0 (λ w j k. T_false (bit S w) (from-passed p.left taken w j k)))) p.added
+
+    vars-next : vars_below (suc u) S ≡ vars_below u S ++ ((λ K. bit K u) ∷ [])
+    vars-next = ap (map (λ w K. bit K w)) (each_next S u member) ∙ map-append (λ w K. bit K w) (each u (bit S)) (u ∷ [])
+
+    pub vary-step : (d : Node) (table' : List Node) → Outcome ws ws' (br u off on) (Ok d) → table' ≡ set table u d → Varying ws₀ S ws' table' t
+    vary-step d table' o c =
+        let m : Makes ws ws' (var_at u ∷ []) (var_at u) (Ok d) = makes-variable ws ws' u (Ok d) o in
+        record {
+          from = suc u;
+          left = from-next p.left taken;
+          long = ap length c ∙ length-set table u d ∙ p.long;
+          added = subst (Added ws₀ ws') (sym vars-next) (added_more so_far m.0);
+          shown = λ w k i. at w k i m.0 m.1 (ℕ_discrete w u) (dec_lt w p.from);
+        }
       where
-        at : (w : ℕ) → w < v + 1 → T (bit S w) → Added ws ws' (var_at v ∷ []) → Code ws' d.0 (var_at v) → Dec (w ≡ v)
-            → Code ws' (get_or codes' w 0) (var_at w)
-        at w k t a b (yes i) =
-            subst (λ z. Code ws' (get_or codes' z 0) (var_at z)) (sym i) (code-set codes codes' v d.0 (omega (arith, p.long)) c b)
-        at w k t a b (no i) =
-            let i' : w ≢ v = i in
-            code_other codes codes' v d.0 w i c (code-kept a.grows (p.shown w (omega arith) t))
+        at : (w : ℕ) → w < suc u → T (bit S w) → Added ws ws' (var_at u ∷ []) → Code ws' d.0 (var_at u) → Dec (w ≡ u) → Dec (w < p.from)
+            → Code ws' (code_at table' w) (var_at w)
+        at w k i a b (yes e) j =
+            subst (λ z. Code ws' (code_at table' z) (var_at z)) (sym e) (code-set table table' u d (omega (arith, p.long, taken.inner)) c b)
+        at w k i a b (no e) (yes j) = code_other table table' u d w e c (code-kept a.grows (p.shown w j i))
+        at w k i a b (no e) (no j) =
+            let e' : w ≢ u = e in
+            let j' : ¬ (w < p.from) = j in
+            absurd (from-passed p.left taken w (omega arith) (omega arith) i)
 
-    pub vary-full : r ≡ Full → VariablesPromise ws₀ ws' codes S false
-    vary-full q =
+    pub vary-full : (f : Full) → Outcome ws ws' (br u off on) (Err f) → (r : Result (List Node) Full) → IsErr r → VariablesPromise ws₀ ws' S r
+    vary-full f o (Err x) e =
         lacking-in
-        (λ f m. let x = each_more (bit S) (suc v) 64 (omega arith) in
-        subst (Of f) (sym (ap (map (λ w K. bit K w)) x.1 ∙ map-append (λ w K. bit K w) (each (suc v) (bit S)) x.0))
-        (Of-left f (vars_below (suc v) S) (map (λ w K. bit K w) x.0) (subst (Of f) (sym vars-next) m)))
-        (lacking-more p.added (subst (Makes ws ws' (var_at v ∷ []) (var_at v)) q (makes-variable ws ws' v r o)))
+        (λ h m. let x = each_more (bit S) (suc u) 64 (omega (arith, taken.inner)) in
+        subst (Of h) (sym (ap (map (λ w K. bit K w)) x.1 ∙ map-append (λ w K. bit K w) (each (suc u) (bit S)) x.0))
+        (Of-left h (vars_below (suc u) S) (map (λ w K. bit K w) x.0) (subst (Of h) (sym vars-next) m)))
+        (lacking-more so_far (makes-variable ws ws' u (Err f) o))
+    vary-full f o (Ok x) e = absurd (false≢true e)
 
-  pub vary-done : (v : ℕ) (ws codes : List ℕ) → 64 ≤ v → ((w : ℕ) → T (bit S w) → w < 64) → Varying ws₀ S ws codes v → VariablesPromise ws₀ ws codes S true
-  vary-done v ws codes l low p =
-      let e : v ≡ 64 = omega (arith, p.bounded) in (
-        subst (λ n. Added ws₀ ws (vars_below n S)) e p.added,
-        λ w t. let k : w < 64 = low w t in p.shown w (omega arith) t,
-      )
+  pub vary-done : (ws : List ℕ) (table : List Node) (s : ℕ) → s ≡ 0 → Varying ws₀ S ws table s
+      → VariablesPromise ws₀ ws S (Ok table)
+  vary-done ws table s e p = (
+    subst (λ xs. Added ws₀ ws (map (λ w K. bit K w) xs))
+        (sym (each-skip (bit S) p.from 64 p.left.bounded (λ w j k. T_false (bit S w) (from-none e p.left w j)))) p.added,
+    λ w i. at w i (dec_lt w p.from),
+  )
+    where
+      at : (w : ℕ) → T (bit S w) → Dec (w < p.from) → Code ws (code_at table w) (λ K. bit K w)
+      at w i (yes j) = p.shown w j i
+      at w i (no j) =
+          let j' : ¬ (w < p.from) = j in
+          absurd (from-none e p.left w (omega arith) i)
 
 -- ---- from one pass into the next
 
--- b is the next member, or 64
-pub record Taking (B : ℕ) (codes₀ next codes : List ℕ) (same : Bool) (b : ℕ) : Type 0 where
-  pub bounded : b ≤ 64
-  pub long : length codes ≡ 64
-  pub taken : (w : ℕ) → w < b → T (bit B w) → get_or codes w 0 ≡ get_or next w 0
-  pub rest : (w : ℕ) → b ≤ w → get_or codes w 0 ≡ get_or codes₀ w 0
-  pub stays : same ≡ true → (w : ℕ) → w < b → T (bit B w) → get_or codes₀ w 0 ≡ get_or next w 0
+-- s has the members that are left: the others were taken over
+pub record Taking (B : ℕ) (table₀ next table : List Node) (same : Bool) (s : ℕ) : Type 0 where
+  pub long : length table ≡ 64
+  pub taken : (w : ℕ) → T (bit B w) → (T (bit s w) → ⊥) → code_at table w ≡ code_at next w
+  pub rest : (w : ℕ) → T (bit s w) → code_at table w ≡ code_at table₀ w
+  pub stays : same ≡ true → (w : ℕ) → T (bit B w) → (T (bit s w) → ⊥) → code_at table₀ w ≡ code_at next w
 
-module _ (B : ℕ) (codes₀ next : List ℕ) where
-  take-to : (i b : ℕ) (codes : List ℕ) (same : Bool) → i ≤ 64 → b ≡ lowest 64 (onward B i) → length codes ≡ 64
-      → ((w : ℕ) → w < i → T (bit B w) → get_or codes w 0 ≡ get_or next w 0) → ((w : ℕ) → i ≤ w → get_or codes w 0 ≡ get_or codes₀ w 0)
-      → (same ≡ true → (w : ℕ) → w < i → T (bit B w) → get_or codes₀ w 0 ≡ get_or next w 0) → Taking B codes₀ next codes same b
-  take-to i b codes same l e n t r s =
-      let x : Next B i b = next-is B i b e in
+module _ (B : ℕ) (table₀ next : List Node) where
+  pub take_none : (s : ℕ) → length table₀ ≡ 64 → s ≡ B → Taking B table₀ next table₀ true s
+  take_none s l e =
       record {
-        bounded = x.bounded;
-        long = n;
-        taken = λ w k m. below x t w k m (dec_lt w i);
-        rest = λ w k. r w (omega (arith, next-after l x));
-        stays = λ q w k m. below x (s q) w k m (dec_lt w i);
+        long = l;
+        taken = λ w t k. absurd (k (subst (λ m. T (bit m w)) (sym e) t));
+        rest = λ w t. refl;
+        stays = λ q w t k. absurd (k (subst (λ m. T (bit m w)) (sym e) t));
       }
-    where
-      below : Next B i b → {P : ℕ → Type 0} → ((w : ℕ) → w < i → T (bit B w) → P w) → (w : ℕ) → w < b → T (bit B w) → Dec (w < i) → P w
-      below x h w k m (yes j) = h w j m
-      below x h w k m (no j) =
-          let j' : ¬ (w < i) = j in
-          absurd (x.passed w (omega arith) k m)
-
-  pub take_none : (b : ℕ) → length codes₀ ≡ 64 → b ≡ lowest 64 (onward B 0) → Taking B codes₀ next codes₀ true b
-  take_none b n e =
-      take-to 0 b codes₀ true (omega arith) e n (λ w k. absurd (omega arith)) (λ w k. refl) (λ q w k. absurd (omega arith))
 
   -- where it says that they are the same, they were so before, and the code was the same
-  pub take_step : (b : ℕ) (codes codes' : List ℕ) (same same' : Bool) (x y after : ℕ) → b < 64 → x ≡ get_or next b 0 → y ≡ get_or codes b 0
-      → codes' ≡ set codes b x → after ≡ lowest 64 (onward B (b + 1)) → (same' ≡ true → (same ≡ true) × (y ≡ x))
-      → Taking B codes₀ next codes same b → Taking B codes₀ next codes' same' after
-  take_step b codes codes' same same' x y after l ex ey ec e f p =
-      take-to (b + 1) after codes' same' (omega arith) e (ap length ec ∙ length-set codes b x ∙ p.long)
-      (λ w k t. ap (λ xs. get_or xs w 0) ec ∙ got w k t (ℕ_discrete w b))
-      (λ w k. ap (λ xs. get_or xs w 0) ec ∙ get_or-set_other codes b w x 0 (omega arith) ∙ p.rest w (omega arith))
-      (λ q w k t. was (f q) w k t (ℕ_discrete w b))
+  pub take_step : (table : List Node) (same : Bool) (s : ℕ) → Taking B table₀ next table same s → (u t : ℕ) → IsLowestOf s u t
+      → (table' : List Node) (same' : Bool) (x : Node) → x.0 ≡ code_at next u → table' ≡ set table u x
+      → (same' ≡ true → (same ≡ true) × (code_at table u ≡ code_at next u)) → Taking B table₀ next table' same' t
+  take_step table same s p u t taken table' same' x is_next is_set f =
+      record {
+        long = ap length is_set ∙ length-set table u x ∙ p.long;
+        taken = λ w m k. got w m k (ℕ_discrete w u);
+        rest = λ w i. let q = still w i in code_at-other table table' u x w q.0 is_set ∙ p.rest w q.1;
+        stays = λ q w m k. was (f q) w m k (ℕ_discrete w u);
+      }
     where
-      got : (w : ℕ) → w < b + 1 → T (bit B w) → Dec (w ≡ b) → get_or (set codes b x) w 0 ≡ get_or next w 0
-      got w k t (yes i) = rw i (get_or-set_same codes b x 0 (omega (arith, p.long)) ∙ ex)
-      got w k t (no i) =
-          let i' : w ≢ b = i in
-          get_or-set_other codes b w x 0 i ∙ p.taken w (omega arith) t
+      still : (w : ℕ) → T (bit t w) → (w ≢ u) × T (bit s w)
+      still w i = cut-from s u w (subst (λ m. T (bit m w)) taken.rest i)
 
-      was : (same ≡ true) × (y ≡ x) → (w : ℕ) → w < b + 1 → T (bit B w) → Dec (w ≡ b) → get_or codes₀ w 0 ≡ get_or next w 0
-      was g w k t (yes i) = rw i (sym (p.rest b (omega arith)) ∙ sym ey ∙ g.1 ∙ ex)
-      was g w k t (no i) =
-          let i' : w ≢ b = i in
-          p.stays g.0 w (omega arith) t
+      -- one that is not left, and is not u, was not left before
+      before : (w : ℕ) → w ≢ u → (T (bit t w) → ⊥) → T (bit s w) → ⊥
+      before w e k i = k (subst (λ m. T (bit m w)) (sym taken.rest) (cut_keeps s u w e i))
 
-  pub take_done : (b : ℕ) (codes : List ℕ) (same : Bool) → 64 ≤ b → Taking B codes₀ next codes same b → Settling B codes₀ next codes same
-  take_done b codes same l p = record { taken = λ w k t. p.taken w (omega arith) t; stays = λ q w k t. p.stays q w (omega arith) t }
+      got : (w : ℕ) → T (bit B w) → (T (bit t w) → ⊥) → Dec (w ≡ u) → code_at table' w ≡ code_at next w
+      got w m k (yes e) =
+          subst (λ z. code_at table' z ≡ code_at next z) (sym e) (code_at-same table table' u x (omega (arith, p.long, taken.inner)) is_set ∙ is_next)
+      got w m k (no e) = code_at-other table table' u x w e is_set ∙ p.taken w m (before w e k)
+
+      was : (same ≡ true) × (code_at table u ≡ code_at next u) → (w : ℕ) → T (bit B w) → (T (bit t w) → ⊥) → Dec (w ≡ u)
+          → code_at table₀ w ≡ code_at next w
+      was g w m k (yes e) = subst (λ z. code_at table₀ z ≡ code_at next z) (sym e) (sym (p.rest u taken.member) ∙ g.1)
+      was g w m k (no e) = p.stays g.0 w m (before w e k)
+
+  pub take_done : (table : List Node) (same : Bool) (s : ℕ) → s ≡ 0 → Taking B table₀ next table same s → Settling B table₀ next table same
+  take_done table same s e p = record { taken = λ w t. p.taken w t (zero-member s w e); stays = λ q w t. p.stays q w t (zero-member s w e) }

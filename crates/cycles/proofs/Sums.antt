@@ -4,25 +4,25 @@ use mathlib.Core.Path.{◌≡◌, refl, sym, ap, ap₂, ◌∙◌, subst, fun_ex
 use mathlib.Core.Logic.{◌≢◌}
 use mathlib.Core.Bool.{Bool, true, false, ◌&&◌, ◌||◌, or-false}
 use mathlib.Core.List.{List, [], ◌∷◌, ◌++◌, map, append_assoc, append-nil}
-use Prim.Native.Nat.{ℕ, zero, suc, ◌+◌, ◌≤◌, ◌<◌}
+use Prim.Native.Nat.{ℕ, zero, suc, ◌≤◌, ◌<◌}
 use native.Mathlib.Omega.{arith}
-use native.Mathlib.Numerals.{add-one}
+use Rattle.std.proofs.lemmas.Bool.{false≢true}
 use native.Mathlib.Decide.{ℕ_discrete}
 use lib.Dec.{T}
-use lib.ListN.{get_or}
-use Rattle.masks.specs.Sets.{bit, pick, lowest}
+use Rattle.std.specs.Prelude.{Result, Ok, Err, IsErr}
+use Rattle.masks.specs.Sets.{bit, pick}
+use Rattle.masks.specs.Walk.{IsLowestOf}
 use Rattle.masks.proofs.Tests.{T_true, T_false}
-use Rattle.masks.proofs.Nexts.{onward, Next, next-is, next-after}
 use Rattle.graphs.specs.Graph.{Of}
 use Rattle.graphs.proofs.Lists.{Of-left, map-append}
-use Rattle.nodes.specs.Codes.{Table}
-use Rattle.nodes.specs.Promise.{Memo, Joinable, Joined}
+use Rattle.nodes.specs.Codes.{Table, Held}
+use Rattle.nodes.specs.Promise.{Joined}
 use Rattle.nodes.specs.declared.Node.{Node}
-use Rattle.nodes.specs.declared.Made.{Made}
-use Rattle.nodes.specs.declared.Made.TheVariants.{At, Full}
+use Rattle.nodes.specs.declared.Full.{Full}
 use Rattle.cycles.specs.Passes.{any, each, either, ors_after, ors}
-use Rattle.cycles.specs.Work.{Code, Shows, Added, Makes, Summable, any_of, ors_of, Summed, and_of, IsVariable, Multiplied}
-use Rattle.cycles.proofs.Holdings.{code-kept, code_off, joinable, added_none, added_more, lacking-in, lacking-more, makes-join}
+use Rattle.cycles.specs.Work.{code_at, Code, Shows, Shown, Added, Makes, any_of, ors_of, Summed, and_of, IsVariable, Multiplied}
+use Rattle.cycles.proofs.Holdings.{code-kept, code_off, code-held, added_none, added_more, lacking-in, lacking-more, makes-join}
+use Rattle.cycles.proofs.Onward.{From, from-all, from-none, from-member, from-passed, from-next}
 
 -- ---- those below b that pass a test, where none from a on does
 
@@ -151,113 +151,106 @@ pub record Sum (ws₀ ws : List ℕ) (S : ℕ) (g : ℕ → ℕ → Bool) (u c :
   pub added : Added ws₀ ws (ors_below u S g)
   pub code : Code ws c (any_below u S g)
 
--- u is the next member, or 64
-pub record Summing (ws₀ codes : List ℕ) (S : ℕ) (ws ms : List ℕ) (u c : ℕ) : Type 0 where
-  pub bounded : u ≤ 64
-  pub member : u < 64 → T (bit S u)
-  pub memo : Memo ws ms
-  pub sums : (g : ℕ → ℕ → Bool) → Shows ws₀ codes S g → Sum ws₀ ws S g u c
+-- s has the members that are left
+pub record Summing (ws₀ : List ℕ) (table : List Node) (S : ℕ) (ws : List ℕ) (s c : ℕ) : Type 0 where
+  pub from : ℕ
+  pub left : From S from s
+  pub sums : (g : ℕ → ℕ → Bool) → Shows ws₀ table S g → Sum ws₀ ws S g from c
 
-module _ (ws₀ codes : List ℕ) (S : ℕ) where
-  sum_to : (i u : ℕ) (ws ms : List ℕ) (c : ℕ) → i ≤ 64 → u ≡ lowest 64 (onward S i) → Memo ws ms
-      → ((g : ℕ → ℕ → Bool) → Shows ws₀ codes S g → Sum ws₀ ws S g i c) → Summing ws₀ codes S ws ms u c
-  sum_to i u ws ms c l e m h =
-      let x : Next S i u = next-is S i u e in
-      record {
-        bounded = x.bounded;
-        member = λ k. (x.found k).1;
-        memo = m;
-        sums = λ g s.
-            let p = h g s in
-            record {
-              added = subst (Added ws₀ ws) (sym (ors-skip S g i u (next-after l x) x.passed)) p.added;
-              code = subst (Code ws c) (sym (any-skips S g i u (next-after l x) x.passed)) p.code;
-            };
-      }
-
-  pub sum-none : (u : ℕ) (ms : List ℕ) → Table ws₀ → Memo ws₀ ms → u ≡ lowest 64 (onward S 0) → Summing ws₀ codes S ws₀ ms u 0
+module _ (ws₀ : List ℕ) (table : List Node) (S : ℕ) where
+  pub sum-none : (s : ℕ) → Table ws₀ → s ≡ S → Summing ws₀ table S ws₀ s 0
   unfolding any each
-  sum-none u ms t m e =
-      sum_to 0 u ws₀ ms 0 (omega arith) e m (λ g s. record { added = added_none t; code = code_off ws₀ })
+  sum-none s t e = record { from = 0; left = from-all e; sums = λ g s. record { added = added_none t; code = code_off ws₀ } }
 
-  module _ (u : ℕ) (ws ms : List ℕ) (c x : ℕ) (l : u < 64) (at-u : x ≡ get_or codes u 0) (p : Summing ws₀ codes S ws ms u c) where
+  -- u is taken, which leaves t
+  module _ (ws : List ℕ) (s c : ℕ) (p : Summing ws₀ table S ws s c) (u t : ℕ) (taken : IsLowestOf s u t) where
+    member : T (bit S u)
+    member = (from-member p.left taken).1
+
     -- the code of u, in the room as it is now
-    code_of : (g : ℕ → ℕ → Bool) → Shows ws₀ codes S g → Code ws x (g u)
-    code_of g s = subst (λ y. Code ws y (g u)) (sym at-u) (code-kept (p.sums g s).added.grows (s u (p.member l)))
+    code_of : (g : ℕ → ℕ → Bool) → Shows ws₀ table S g → Code ws (code_at table u) (g u)
+    code_of g s = code-kept (p.sums g s).added.grows (s u member)
 
-    pub sum-joinable : (ms₀ : List ℕ) → Summable ws₀ ms₀ codes S → Joinable ws ms c x
-    sum-joinable ms₀ q =
-        let s = p.sums q.given q.shown in
-        joinable s.added.table p.memo s.code (code_of q.given q.shown)
+    -- what goes for those below `from` goes for those below u
+    so_far : (g : ℕ → ℕ → Bool) → Shows ws₀ table S g → Sum ws₀ ws S g u c
+    so_far g s =
+        let q = p.sums g s in
+        record {
+          added = subst (Added ws₀ ws) (sym (ors-skip S g p.from u (from-member p.left taken).0 (from-passed p.left taken))) q.added;
+          code = subst (Code ws c) (sym (any-skips S g p.from u (from-member p.left taken).0 (from-passed p.left taken))) q.code;
+        }
+
+    pub sum-left : Shown ws₀ table S → Held ws 0 c
+    sum-left q = let x = p.sums q.given q.shown in code-held x.added.table x.code
+
+    pub sum-right : Shown ws₀ table S → Held ws 0 (code_at table u)
+    sum-right q = code-held (p.sums q.given q.shown).added.table (code_of q.given q.shown)
 
     module _ (ws' ms' : List ℕ) where
-      one_more : (r : Made) → Joined true ws ws' ms' c x r → (g : ℕ → ℕ → Bool) → Shows ws₀ codes S g
+      one_more : (r : Result Node Full) → Joined true ws ws' ms' c (code_at table u) r → (g : ℕ → ℕ → Bool) → Shows ws₀ table S g
           → Makes ws ws' (either (any_below u S g) (g u) ∷ []) (either (any_below u S g) (g u)) r
-      one_more r j g s = makes-join true ws ws' ms' c x (any_below u S g) (g u) r (p.sums g s).added.table (p.sums g s).code (code_of g s) j
+      one_more r j g s =
+          let x = so_far g s in
+          makes-join true ws ws' ms' c (code_at table u) (any_below u S g) (g u) r x.added.table x.code (code_of g s) j
 
-      pub sum_step : (r : Made) (d : Node) (after : ℕ) → Joined true ws ws' ms' c x r → r ≡ At d → after ≡ lowest 64 (onward S (u + 1))
-          → Summing ws₀ codes S ws' ms' after d.0
-      sum_step r d after j q e =
-          sum_to (u + 1) after ws' ms' d.0 (omega arith) e j.memo (λ g s. subst (λ n. Sum ws₀ ws' S g n d.0) (sym (add-one u)) (next g s))
+      pub sum-step : (d : Node) → Joined true ws ws' ms' c (code_at table u) (Ok d) → Summing ws₀ table S ws' t d.0
+      sum-step d j = record { from = suc u; left = from-next p.left taken; sums = next }
         where
-          next : (g : ℕ → ℕ → Bool) → Shows ws₀ codes S g → Sum ws₀ ws' S g (suc u) d.0
+          next : (g : ℕ → ℕ → Bool) → Shows ws₀ table S g → Sum ws₀ ws' S g (suc u) d.0
           next g s =
-              let m = subst (Makes ws ws' (either (any_below u S g) (g u) ∷ []) (either (any_below u S g) (g u))) q (one_more r j g s) in
+              let m = one_more (Ok d) j g s in
               record {
-                added = subst (Added ws₀ ws') (sym (ors-next S g u (p.member l))) (added_more (p.sums g s).added m.0);
-                code = subst (Code ws' d.0) (sym (any_next S g u (p.member l))) m.1;
+                added = subst (Added ws₀ ws') (sym (ors-next S g u member)) (added_more (so_far g s).added m.0);
+                code = subst (Code ws' d.0) (sym (any_next S g u member)) m.1;
               }
 
-      pub sum-full : (r : Made) → Joined true ws ws' ms' c x r → r ≡ Full → Summed ws₀ ws' ms' codes S Full
-      sum-full r j q =
+      pub sum-full : (f : Full) → Joined true ws ws' ms' c (code_at table u) (Err f) → (r : Result Node Full) → IsErr r → Summed ws₀ ws' table S r
+      sum-full f j (Err x) e =
           record {
             made = λ g s.
-                lacking-in (λ f m. ors_below-more S g (suc u) 64 (omega arith) f (subst (Of f) (sym (ors-next S g u (p.member l))) m))
-                (lacking-more (p.sums g s).added
-                (subst (Makes ws ws' (either (any_below u S g) (g u) ∷ []) (either (any_below u S g) (g u))) q (one_more r j g s)));
-            memo = j.memo;
+                lacking-in (λ h m. ors_below-more S g (suc u) 64 (omega (arith, taken.inner)) h (subst (Of h) (sym (ors-next S g u member)) m))
+                (lacking-more (so_far g s).added (one_more (Err f) j g s));
           }
+      sum-full f j (Ok x) e = absurd (false≢true e)
 
-  pub sum_done : (u : ℕ) (ws ms : List ℕ) (d : Node) → 64 ≤ u → Summing ws₀ codes S ws ms u d.0 → Summed ws₀ ws ms codes S (At d)
-  sum_done u ws ms d l p =
-      let e : u ≡ 64 = omega (arith, p.bounded) in
+  pub sum_done : (ws : List ℕ) (s : ℕ) (d : Node) → s ≡ 0 → Summing ws₀ table S ws s d.0 → Summed ws₀ ws table S (Ok d)
+  sum_done ws s d e p =
       record {
-        made = λ g s.
-            let q = subst (λ n. Sum ws₀ ws S g n d.0) e (p.sums g s) in
-            (q.added, q.code);
-        memo = p.memo;
+        made = λ g x.
+            let q = p.sums g x in
+            let out : (w : ℕ) → p.from ≤ w → w < 64 → T (bit S w) → ⊥ = λ w a b. from-none e p.left w a in
+            (subst (Added ws₀ ws) (sym (ors-skip S g p.from 64 p.left.bounded out)) q.added, subst (Code ws d.0) (sym (any-skips S g p.from 64 p.left.bounded out)) q.code);
       }
 
 -- ---- the product
 
-module _ (ws ws₁ ms₁ codes : List ℕ) (c S : ℕ) (s : Made) (sum : Summed ws ws₁ ms₁ codes S s) where
+module _ (ws ws₁ : List ℕ) (table : List Node) (c S : ℕ) where
   -- the room was too small for the OR
-  pub product-full : s ≡ Full → Multiplied ws ws₁ ms₁ codes c S Full
-  product-full e =
-      record {
-        made = λ v g p q. lacking-in (λ f m. Of-left f (ors_of S g) (and_of v S g ∷ []) m) (subst (Makes ws ws₁ (ors_of S g) (any_of S g)) e (sum.made g q));
-        memo = sum.memo;
-      }
+  pub product-full : (f : Full) → Summed ws ws₁ table S (Err f) → (r : Result Node Full) → IsErr r → Multiplied ws ws₁ table c S r
+  product-full f sum (Err x) e =
+      record { made = λ v g p q. lacking-in (λ h m. Of-left h (ors_of S g) (and_of v S g ∷ []) m) (sum.made g q) }
+  product-full f sum (Ok x) e = absurd (false≢true e)
 
-  module _ (d : Node) (e : s ≡ At d) where
-    -- the OR
-    summed : (g : ℕ → ℕ → Bool) → Shows ws codes S g → Added ws ws₁ (ors_of S g) × Code ws₁ d.0 (any_of S g)
-    summed g q = subst (Makes ws ws₁ (ors_of S g) (any_of S g)) e (sum.made g q)
+  module _ (d : Node) (sum : Summed ws ws₁ table S (Ok d)) where
+    pub product-left : Shown ws table S → (v : ℕ) × IsVariable ws c v → Held ws₁ 0 c
+    product-left q w =
+        let p = sum.made q.given q.shown in
+        code-held p.0.table (code-kept p.0.grows w.1)
 
-    pub product-joinable : (ms : List ℕ) → Summable ws ms codes S → (v : ℕ) × IsVariable ws c v → Joinable ws₁ ms₁ c d.0
-    product-joinable ms q w =
-        let p = summed q.given q.shown in
-        joinable p.0.table sum.memo (code-kept p.0.grows w.1) p.1
+    pub product-right : Shown ws table S → Held ws₁ 0 d.0
+    product-right q =
+        let p = sum.made q.given q.shown in
+        code-held p.0.table p.1
 
-    pub product-done : (ws₂ ms₂ : List ℕ) (r : Made) → Joined false ws₁ ws₂ ms₂ c d.0 r → Multiplied ws ws₂ ms₂ codes c S r
-    product-done ws₂ ms₂ r j = record { made = made; memo = j.memo }
+    pub product-done : (ws₂ ms₂ : List ℕ) (r : Result Node Full) → Joined false ws₁ ws₂ ms₂ c d.0 r → Multiplied ws ws₂ table c S r
+    product-done ws₂ ms₂ r j = record { made = made }
       where
-        made : (v : ℕ) (g : ℕ → ℕ → Bool) → IsVariable ws c v → Shows ws codes S g → Makes ws ws₂ (ors_of S g ++ (and_of v S g ∷ [])) (and_of v S g) r
+        made : (v : ℕ) (g : ℕ → ℕ → Bool) → IsVariable ws c v → Shows ws table S g → Makes ws ws₂ (ors_of S g ++ (and_of v S g ∷ [])) (and_of v S g) r
         made v g w q =
-            let p = summed g q in
+            let p = sum.made g q in
             go r p.0 (makes-join false ws₁ ws₂ ms₂ c d.0 (λ K. bit K v) (any_of S g) r p.0.table (code-kept p.0.grows w) p.1 j)
           where
-            go : (r : Made) → Added ws ws₁ (ors_of S g) → Makes ws₁ ws₂ (and_of v S g ∷ []) (and_of v S g) r
+            go : (r : Result Node Full) → Added ws ws₁ (ors_of S g) → Makes ws₁ ws₂ (and_of v S g ∷ []) (and_of v S g) r
                 → Makes ws ws₂ (ors_of S g ++ (and_of v S g ∷ [])) (and_of v S g) r
-            go (At b) a m = (added_more a m.0, m.1)
-            go Full a m = lacking-more a m
+            go (Ok b) a m = (added_more a m.0, m.1)
+            go (Err x) a m = lacking-more a m

@@ -7,20 +7,22 @@ use mathlib.Core.List.{List}
 use Prim.Native.Nat.{ℕ, zero, suc, ◌+◌, ◌-◌, ◌≤◌, ◌<◌}
 use native.Mathlib.Omega.{arith}
 use native.Mathlib.Numerals.{add-one}
-use native.Mathlib.Decide.{ℕ_discrete}
+use native.Mathlib.Decide.{ℕ_discrete, dec_lt}
 use lib.Dec.{T}
-use lib.ListN.{length, take, length-set}
-use lib.Seq.{take-suc-set}
-use Rattle.masks.specs.Sets.{bit, pick, put, lowest, number}
+use lib.ListN.{length}
+use Rattle.std.proofs.lemmas.List.{length_push}
+use Rattle.masks.specs.Sets.{bit, pick, put, number}
+use Rattle.masks.specs.Walk.{IsLowestOf}
 use Rattle.masks.proofs.Tests.{T_true, T_false, false-T}
-use Rattle.masks.proofs.Members.{in-put, in-more, in-less}
+use Rattle.masks.proofs.Bits.{bit-zero}
+use Rattle.masks.proofs.PutCut.{in-put, in-more, in-less, cut-other, cut-from}
 use Rattle.masks.proofs.Weights.{weight-new, count-le}
-use Rattle.masks.proofs.Nexts.{onward, Next, next-is, next-after}
+use Rattle.arrayvec.specs.ArrayVec.{array_vec_len}
 use Rattle.graphs.specs.Graph.{edge}
-use Rattle.graphs.specs.Components.{inside}
 use Rattle.graphs.proofs.Parts.{inside-edge}
-use Rattle.cycles.specs.Work.{VisitLog, finish_l, mark_l, along_l, targets_l, visit_l, log_of, Marked, Finished, size, Consistent, Visitable, VisitDone}
-use Rattle.cycles.specs.declared.search.Visited.{Visited}
+use Rattle.cycles.specs.Work.{VisitLog, finish_l, mark_l, along_l, targets_l, visit_l, log_of, Alike, Marked, Finished, size}
+use Rattle.cycles.specs.Work.{Consistent, Visitable, edges_of, visit_of, VisitDone}
+use Rattle.cycles.specs.declared.search.Search.{Search}
 
 -- ---- the definition: one edge, and positions with none
 
@@ -45,179 +47,211 @@ module _ (E : ℕ → ℕ → Bool) (n : ℕ) (go : ℕ → VisitLog → VisitLo
 
 -- ---- the record of the code
 
-log_is : (s : Visited) (o b : ℕ) (xs : List ℕ) → number s.over ≡ o → number s.back ≡ b → take s.count s.flops ≡ xs
+log_is : (s : Search) (o b : ℕ) (xs : List ℕ) → number s.over ≡ o → number s.order.back ≡ b → s.order.flops.items ≡ xs
     → log_of s ≡ record { visits = record { over = o; back = b }; order = xs }
 log_is s o b xs p q r = λ i. record { visits = record { over = p i; back = q i }; order = r i }
 
-marked-log : (u : ℕ) (s r : Visited) → Marked u s r → log_of r ≡ mark_l u (log_of s)
-marked-log u s r m = log_is r _ _ _ (ap number m.over) m.back (rw (m.count, m.flops))
+marked-log : (u : ℕ) (s r : Search) → Marked u s r → log_of r ≡ mark_l u (log_of s)
+marked-log u s r m = log_is r _ _ _ (ap number m.over) m.back (ap (λ f. f.items) m.flops)
 
-marked-held : (n going u : ℕ) (s r : Visited) → Marked u s r → Consistent n going s → Consistent n going r
-marked-held n going u s r m h =
+marked-held : (going u : ℕ) (s r : Search) → Marked u s r → Consistent going s → Consistent going r
+marked-held going u s r m h =
     record {
-      long = ap length m.flops ∙ h.long;
-      counted = m.count ∙ h.counted ∙ ap (λ z. size n (number z)) (sym m.over);
+      counted = rw (m.flops, m.over, m.alike.part) h.counted;
       apart = λ x t i. h.apart x t (subst (λ z. T (bit (number z) x)) m.over i);
     }
 
-module _ (n going v : ℕ) (s : Visited) (inner : v < n) (held : Consistent n (put going v) s) where
+module _ (going v : ℕ) (s : Search) (inner : v < length s.part.graph.rows.now) (held : Consistent (put going v) s) where
+  abbrev n : ℕ
+  n = length s.part.graph.rows.now
+
   -- v itself is not over, so one more is listed
   finish-fresh : bit (number s.over) v ≡ false
   finish-fresh = T_false _ (held.apart v (in-put going v))
 
-  finish-size : size n (put (number s.over) v) ≡ s.count + 1
+  finish-size : size n (put (number s.over) v) ≡ array_vec_len s.order.flops + 1
   finish-size = weight-new (λ x. 1) n (number s.over) v inner finish-fresh ∙ ap (λ z. z + 1) (sym held.counted)
 
-  pub finish-room : s.count < n
-  finish-room = omega (arith, finish-size, count-le n (put (number s.over) v))
+  pub finish-room : array_vec_len s.order.flops < 64
+  finish-room = omega (arith, finish-size, count-le n (put (number s.over) v), s.part.graph.sound.few)
 
-  module _ (r : Visited) (fin : Finished v s r) where
-    pub finished-log : n ≤ 64 → log_of r ≡ finish_l v (log_of s)
-    finished-log few =
-        log_is r _ _ _ fin.over (ap number fin.back)
-        (rw (fin.count, fin.flops, add-one s.count) (take-suc-set s.flops s.count v (omega (arith, finish-room, held.long))))
+  module _ (r : Search) (fin : Finished v s r) where
+    pub finished-log : log_of r ≡ finish_l v (log_of s)
+    finished-log =
+        log_is r _ _ _ fin.over (ap number fin.back) fin.flops
 
-    pub finished-held : (T (bit going v) → ⊥) → Consistent n going r
+    pub finished-held : (T (bit going v) → ⊥) → Consistent going r
     finished-held new =
         record {
-          long = ap length fin.flops ∙ length-set s.flops s.count v ∙ held.long;
-          counted = fin.count ∙ sym finish-size ∙ ap (size n) (sym fin.over);
+          counted = rw (fin.over, fin.alike.part) (more ∙ sym finish-size);
           apart = apart;
         }
       where
+        more : array_vec_len r.order.flops ≡ array_vec_len s.order.flops + 1
+        more = ap length fin.flops ∙ length_push s.order.flops.items v
+
         apart : (x : ℕ) → T (bit going x) → T (bit (number r.over) x) → ⊥
         apart x t i =
             ⊎_elim (λ e. new (subst (λ z. T (bit going z)) e t)) (held.apart x (in-more going v x t))
             (in-less (number s.over) v x (subst (λ z. T (bit z x)) fin.over i))
 
+pub alike-both : {s r t : Search} → Alike s r → Alike r t → Alike s t
+alike-both {s} {r} {t} a b = record { part = b.part ∙ a.part }
+
+visit-alike : (s r : Search) → Alike s r → (going : ℕ) → visit_of r going ≡ visit_of s going
+visit-alike s r a going = rw a.part refl
+
 -- ---- the loop over the targets
 
--- the visit of a target, while those of `on` are being visited
-abbrev pub going_on : List ℕ → ℕ → ℕ → ℕ → VisitLog → VisitLog
-going_on rows C on = visit_l (inside (edge rows) C) (length rows) (length rows - size (length rows) on) on
+-- in a search: of v, where those of `on` are being visited, v with them. The targets of `left` are to come: those at or above a position, and those below it
+-- were gone along
+pub record Looking (v on : ℕ) (begun s : Search) (left : ℕ) : Type 0 where
+  pub alike : Alike begun s
+  pub at : ℕ
+  pub bounded : at ≤ length begun.part.graph.rows.now
+  pub ahead : (x : ℕ) → at ≤ x → bit left x ≡ edges_of begun v x
+  pub behind : (x : ℕ) → x < at → T (bit left x) → ⊥
+  pub log : log_of s ≡ targets_l (edges_of begun) (length begun.part.graph.rows.now) (visit_of begun on) on v at (log_of begun)
+  pub held : Consistent on s
 
--- in a block, with the component C: of v, where those of `on` are being visited, v with them. The targets below w were gone along, and w is the next or 64
-pub record Looking (rows : List ℕ) (C v on : ℕ) (begun s : Visited) (w : ℕ) : Type 0 where
-  pub bounded : w ≤ 64
-  pub target : w < 64 → T (inside (edge rows) C v w)
-  pub log : log_of s ≡ targets_l (inside (edge rows) C) (length rows) (going_on rows C on) on v w (log_of begun)
-  pub held : Consistent (length rows) on s
-
-module _ (rows : List ℕ) (C v on : ℕ) (begun : Visited) (targets : ℕ) (row : (w : ℕ) → bit targets w ≡ inside (edge rows) C v w) where
+module _ (v on : ℕ) (begun : Search) where
   abbrev E : ℕ → ℕ → Bool
-  E = inside (edge rows) C
+  E = edges_of begun
 
-  abbrev n : ℕ
-  n = length rows
+  abbrev m : ℕ
+  m = length begun.part.graph.rows.now
 
   abbrev go : ℕ → VisitLog → VisitLog
-  go = going_on rows C on
+  go = visit_of begun on
 
-  -- from i on, where those below i were gone along, to the next target
-  look-to : (i w : ℕ) (s : Visited) → i ≤ 64 → w ≡ lowest 64 (onward targets i) → log_of s ≡ targets_l E n go on v i (log_of begun) → Consistent n on s
-      → Looking rows C v on begun s w
-  look-to i w s l e log held =
-      let x : Next targets i w = next-is targets i w e in
+  pub look-first : (targets left : ℕ) → left ≡ targets → ((w : ℕ) → bit targets w ≡ E v w) → Consistent on begun → Looking v on begun begun left
+  unfolding targets_l
+  look-first targets left e row held =
       record {
-        bounded = x.bounded;
-        target = λ k. subst T (row w) (x.found k).1;
-        log = log ∙ targets-skip E n go on v (log_of begun) i w (next-after l x) (λ u j k. sym (row u) ∙ T_false _ (x.passed u j k));
+        alike = record { part = refl };
+        at = 0;
+        bounded = omega arith;
+        ahead = λ x l. ap (λ z. bit z x) e ∙ row x;
+        behind = λ x l. absurd (omega arith);
+        log = refl;
         held = held;
       }
 
-  pub look-first : (w : ℕ) → w ≡ lowest 64 (onward targets 0) → Consistent n on begun → Looking rows C v on begun begun w
-  unfolding targets_l
-  look-first w e held = look-to 0 w begun (omega arith) e refl held
-
-  module _ (s r : Visited) (w after : ℕ) (l : w < 64) (e : after ≡ lowest 64 (onward targets (w + 1))) (look : Looking rows C v on begun s w) where
-    turn : log_of r ≡ pick (bit on w) (mark_l v (log_of s)) (pick (bit (number s.over) w) (log_of s) (go w (log_of s))) → Consistent n on r
-        → Looking rows C v on begun r after
-    turn log held =
-        look-to (w + 1) after r (omega arith) e
-        (log ∙ edge_on ∙ ap (along_l E n go on v w) look.log ∙ sym (targets-step E n go on v (log_of begun) w)) held
+  -- a turn: w is taken from `left`
+  module _ (inner : (u : ℕ) → T (bit (number begun.part.members) u) → u < length begun.part.graph.rows.now) (s : Search) (w left after : ℕ)
+      (taken : IsLowestOf left w after) (look : Looking v on begun s left) where
+    from : look.at ≤ w
+    from = go' (dec_lt w look.at)
       where
-        edge_on : pick (bit on w) (mark_l v (log_of s)) (pick (bit (number s.over) w) (log_of s) (go w (log_of s))) ≡ along_l E n go on v w (log_of s)
-        edge_on = rw (T_true (E v w) (look.target l))
+        go' : Dec (w < look.at) → look.at ≤ w
+        go' (yes k) = absurd (look.behind w k taken.member)
+        go' (no k) =
+            let k' : ¬ (w < look.at) = k in
+            omega arith
 
-    pub turn-mark : bit on w ≡ true → Marked v s r → Looking rows C v on begun r after
-    turn-mark t m = turn (marked-log v s r m ∙ rw t) (marked-held n on v s r m look.held)
+    pub target-edge : T (E v w)
+    target-edge = subst T (look.ahead w from) taken.member
 
-    pub turn-over : bit on w ≡ false → bit (number s.over) w ≡ true → r ≡ s → Looking rows C v on begun r after
-    turn-over t o q = turn (ap log_of q ∙ rw (t, o)) (subst (Consistent n on) (sym q) look.held)
+    pub target-member : T (bit (number begun.part.members) w)
+    target-member = (inside-edge (edge begun.part.graph.rows.now) (number begun.part.members) v w target-edge).1
 
-    pub turn-visit : bit on w ≡ false → bit (number s.over) w ≡ false → VisitDone rows C w on s r → Looking rows C v on begun r after
-    turn-visit t o d = turn (d.log ∙ rw (t, o)) d.held
+    module _ (r : Search) where
+      turn : Alike s r → log_of r ≡ pick (bit on w) (mark_l v (log_of s)) (pick (bit (number s.over) w) (log_of s) (go w (log_of s))) → Consistent on r
+          → Looking v on begun r after
+      turn alike log held =
+          record {
+            alike = alike-both look.alike alike;
+            at = w + 1;
+            bounded = omega (arith, inner w target-member);
+            ahead = λ x l. ap (λ z. bit z x) taken.rest ∙ cut-other left w x (omega arith) ∙ look.ahead x (omega (arith, from));
+            behind = behind;
+            log = log ∙ edge_on ∙ ap (along_l E m go on v w) (look.log ∙ skip) ∙ sym (targets-step E m go on v (log_of begun) w);
+            held = held;
+          }
+        where
+          behind : (x : ℕ) → x < w + 1 → T (bit after x) → ⊥
+          behind x l t =
+              let k = cut-from left w x (subst (λ z. T (bit z x)) taken.rest t) in
+              let d : x ≢ w = k.0 in
+              taken.lowest x (omega arith) k.1
+
+          edge_on : pick (bit on w) (mark_l v (log_of s)) (pick (bit (number s.over) w) (log_of s) (go w (log_of s))) ≡ along_l E m go on v w (log_of s)
+          edge_on = rw (T_true (E v w) target-edge) refl
+
+          skip : targets_l E m go on v look.at (log_of begun) ≡ targets_l E m go on v w (log_of begun)
+          skip = targets-skip E m go on v (log_of begun) look.at w from (λ x i k. sym (look.ahead x i) ∙ T_false _ (taken.lowest x k))
+
+      pub turn-mark : bit on w ≡ true → Marked v s r → Looking v on begun r after
+      turn-mark t k = turn k.alike (marked-log v s r k ∙ rw t refl) (marked-held on v s r k look.held)
+
+      pub turn-visit : bit on w ≡ false → bit (number s.over) w ≡ false → VisitDone w on s r → Looking v on begun r after
+      turn-visit t o d = turn d.alike (d.log ∙ ap (λ f. f w (log_of s)) (visit-alike begun s look.alike on) ∙ rw (t, o) refl) d.held
+
+    pub turn-over : bit on w ≡ false → bit (number s.over) w ≡ true → Looking v on begun s after
+    turn-over t o = turn s (record { part = refl }) (rw (t, o) refl) look.held
 
 -- ---- the visit of v, from its beginning to its end
 
-module _ (rows : List ℕ) (C v going : ℕ) (begun : Visited) (may : Visitable rows C v going begun) where
-  pub may-inner : v < length rows
+module _ (v going : ℕ) (begun : Search) (may : Visitable v going begun) where
+  abbrev k : ℕ
+  k = length begun.part.graph.rows.now
+
+  may-inner : v < length begun.part.graph.rows.now
   may-inner = may.inner v may.member
 
-  pub may-small : v < 64
-  may-small = omega (arith, may-inner, may.sound.few)
-
   -- one more is being visited
-  going-size : size (length rows) (put going v) ≡ size (length rows) going + 1
-  going-size = weight-new (λ x. 1) (length rows) going v may-inner (T_false _ may.new)
+  going-size : size k (put going v) ≡ size k going + 1
+  going-size = weight-new (λ x. 1) k going v may-inner (T_false _ may.new)
 
   module _ (on : ℕ) (on_is_put : on ≡ put going v) where
-    pub going-falls : (t : ℕ) → length rows - size (length rows) going ≡ t → length rows - size (length rows) on < t
-    going-falls t e =
-        rw on_is_put (omega (arith, going-size, count-le (length rows) (put going v)))
-
-    pub begun-held : Consistent (length rows) on begun
+    pub begun-held : Consistent on begun
     begun-held =
         rw on_is_put
         (record {
-          long = may.held.long;
           counted = may.held.counted;
-          apart = λ x t i. ⊎_elim (λ e. may.fresh (subst (λ z. T (bit (number begun.over) z)) e i)) (λ k. may.held.apart x k i) (in-less going v x t);
+          apart = λ x t i. ⊎_elim (λ e. may.fresh (subst (λ z. T (bit (number begun.over) z)) e i)) (λ j. may.held.apart x j i) (in-less going v x t);
         })
 
-    -- the visit of a target may begin
-    pub target-may : (w : ℕ) (s : Visited) → w < 64 → Looking rows C v on begun s w → bit on w ≡ false → bit (number s.over) w ≡ false
-        → Visitable rows C w on s
-    target-may w s l look t o =
-        record {
-          sound = may.sound;
-          inner = may.inner;
-          member = (inside-edge (edge rows) C v w (look.target l)).1;
-          new = false-T _ t;
-          fresh = false-T _ o;
-          held = look.held;
-        }
+    module _ (s : Search) (left : ℕ) (look : Looking v on begun s left) where
+      -- the measure falls, and the visit of a target may begin
+      pub going-falls : (t : ℕ) → k - size k going ≡ t → length s.part.graph.rows.now - size (length s.part.graph.rows.now) on < t
+      going-falls t e = rw (look.alike.part, on_is_put) (omega (arith, going-size, count-le k (put going v)))
 
-    module _ (s : Visited) (w : ℕ) (l : 64 ≤ w) (look : Looking rows C v on begun s w) where
-      held_on : Consistent (length rows) (put going v) s
-      held_on = subst (λ z. Consistent (length rows) z s) on_is_put look.held
+      pub target-may : (w after : ℕ) → IsLowestOf left w after → bit on w ≡ false → bit (number s.over) w ≡ false → Visitable w on s
+      target-may w after taken t o =
+          record {
+            inner = rw (look.alike.part) may.inner;
+            member = rw look.alike.part (target-member v on begun may.inner s w left after taken look);
+            new = false-T _ t;
+            fresh = false-T _ o;
+            held = look.held;
+          }
 
-      pub end-room : s.count < 64
-      end-room = omega (arith, finish-room (length rows) going v s may-inner held_on, may.sound.few)
+      held_on : Consistent (put going v) s
+      held_on = subst (λ z. Consistent z s) on_is_put look.held
 
-      pub visit-done : (r : Visited) → Finished v s r → VisitDone rows C v going begun r
+      inner-s : v < length s.part.graph.rows.now
+      inner-s = rw look.alike.part may-inner
+
+      pub end-room : array_vec_len s.order.flops < 64
+      end-room = finish-room going v s inner-s held_on
+
+      pub visit-done : left ≡ 0 → (r : Search) → Finished v s r → VisitDone v going begun r
       unfolding visit_l
-      visit-done r fin = record { log = log; held = finished-held (length rows) going v s may-inner held_on r fin may.new }
+      visit-done none r fin =
+          record { alike = alike-both look.alike fin.alike; log = log; held = finished-held going v s inner-s held_on r fin may.new }
         where
-          E' : ℕ → ℕ → Bool
-          E' = inside (edge rows) C
-
           d : ℕ
-          d = length rows - size (length rows) (put going v)
+          d = k - size k (put going v)
 
-          deeper : length rows - size (length rows) going ≡ suc d
-          deeper = omega (arith, going-size, count-le (length rows) (put going v))
+          deeper : k - size k going ≡ suc d
+          deeper = omega (arith, going-size, count-le k (put going v))
 
-          past : (x : ℕ) → length rows ≤ x → x < w → E' v x ≡ false
-          past x i j = T_false _ (λ t. let k : x < length rows = may.inner x (inside-edge (edge rows) C v x t).1 in omega arith)
-
-          all : log_of s ≡ targets_l E' (length rows) (visit_l E' (length rows) d (put going v)) (put going v) v (length rows) (log_of begun)
+          all : log_of s ≡ targets_l (edges_of begun) k (visit_l (edges_of begun) k d (put going v)) (put going v) v k (log_of begun)
           all =
-              (subst (λ z. Looking rows C v z begun s w) on_is_put look).log
-              ∙ sym (targets-skip E' (length rows) (visit_l E' (length rows) d (put going v)) (put going v) v (log_of begun) (length rows) w
-              (omega (arith, may.sound.few)) past)
+              look.log ∙ targets-skip (edges_of begun) k (visit_of begun on) on v (log_of begun) look.at k look.bounded
+              (λ x i j. sym (look.ahead x i) ∙ ap (λ z. bit z x) none ∙ bit-zero x)
+              ∙ ap (λ z. targets_l (edges_of begun) k (visit_of begun z) z v k (log_of begun)) on_is_put
 
-          log : log_of r ≡ visit_l E' (length rows) (length rows - size (length rows) going) going v (log_of begun)
-          log =
-              finished-log (length rows) going v s may-inner held_on r fin may.sound.few ∙ ap (finish_l v) all
-              ∙ ap (λ k. visit_l E' (length rows) k going v (log_of begun)) (sym deeper)
+          log : log_of r ≡ visit_of begun going v (log_of begun)
+          log = finished-log going v s inner-s held_on r fin ∙ ap (finish_l v) all ∙ ap (λ j. visit_l (edges_of begun) k j going v (log_of begun)) (sym deeper)

@@ -18,7 +18,7 @@ use Rattle.graphs.specs.Graph.{Of, Differ, Walk, edge_to, step_to}
 use Rattle.graphs.specs.Light.{left}
 use Rattle.graphs.proofs.Lists.{Of-left, Of-right, Of-cases, of_at, differ-at, differ-snoc}
 use Rattle.masks.proofs.Bits.{not-zero}
-use Rattle.masks.proofs.Members.{in-put, in-more, in-less}
+use Rattle.masks.proofs.PutCut.{in-put, in-more, in-less}
 use Rattle.cycles.specs.Work.{VisitLog, begun, finish_l, mark_l, along_l, targets_l, visit_l}
 
 -- in a graph E whose edges are between flip-flops that pass a test, all below n

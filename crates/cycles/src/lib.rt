@@ -3,118 +3,86 @@
 
 mod making;
 mod search;
-mod tables;
 
 ghost use Rattle.std.specs.Prelude.{◌≤◌, length};
 ghost use Rattle.masks.specs.Sets.{number};
 ghost use Rattle.graphs.specs.Graph.{edge};
-ghost use Rattle.graphs.specs.Components.{Component};
-ghost use Rattle.graphs.specs.Work.{Sound};
 ghost use Rattle.cycles.specs.Promise.{AskAnswer, AskPromise};
 ghost use Rattle.cycles.specs.Work.{PartPromise};
 
-use graphs::{Checked, Refusal};
+use graphs::{Graph, Part, Refusal};
 pub use making::{Cycle, build_component};
-use masks::{Mask, Vertex};
-use nodes::MEMO;
+use masks::Mask;
+use nodes::{Full, Nodes, with_memo};
 
-// Whether the kept flip-flops hold a loop, with the largest need; or the refusal.
-#[derive(Clone, Copy)]
-pub enum Asked {
-    Yes(usize),
-    No(usize),
-    Refused(Refusal),
-}
-
-// The same of one component: its need, and whether the kept flip-flops hold a loop of it; or that its need exceeds the room.
-#[derive(Drop)]
-enum Part {
-    Fits(usize, bool),
-    Exceeds,
+// Whether the kept flip-flops hold a loop, and the largest need.
+#[derive(Clone, Copy, Debug, PartialEq, Eq)]
+pub struct Asked {
+    pub holds: bool,
+    pub need: usize,
 }
 
 // Whether the kept flip-flops hold a loop in the graph as lent.
-pub fn ask(rows: &[u64], kept: u64, nodes: &mut [u64], memo: &mut [u64]) -> Asked
+pub fn ask(rows: &[u64], kept: u64, nodes: &mut [u64], memo: &mut [u64]) -> Result<Asked, Refusal>
     ensures { AskPromise rows.now kept nodes.old memo.old result nodes.new memo.new }
 {
-    let n = rows.len();
-    let checked = graphs::check(rows, n);
-    if let Checked::Refused(refusal) = checked {
-        return Asked::Refused(refusal);
-    }
+    let graph = Graph::new(rows)?;
     let keep = Mask::of(kept);
-    if !keep.without(Mask::below(n)).is_empty() {
-        return Asked::Refused(Refusal {
-            number: 9,
-            place: 0,
-        });
+    if !keep.without(Mask::below(graph.len())).is_empty() {
+        return Err(Refusal::KeptOutside);
     }
     let words = nodes::capacity(nodes);
-    let answer = ask_memo(rows, keep, &mut nodes[..words], memo);
+    let answer = ask_memo(graph, keep, &mut nodes[..words], memo);
     nodes::empty(nodes);
     nodes::clear(memo);
     answer
 }
 
-// In the part of the node room that counts, with a memo that is long enough: where the lent one is short, a local one takes its place.
-fn ask_memo(rows: &[u64], kept: Mask, nodes: &mut [u64], memo: &mut [u64]) -> Asked
-    requires { Sound rows.now × (length nodes.old ≤ 65536) }
-    ensures { AskAnswer rows.now (number kept) (length nodes.old) result }
+// In the part of the node room that counts, with a memo that is long enough.
+fn ask_memo(graph: Graph, kept: Mask, nodes: &mut [u64], memo: &mut [u64]) -> Result<Asked, Refusal>
+    requires { length nodes.old ≤ 65536 }
+    ensures { AskAnswer graph.entry.rows.now (number kept) (length nodes.old) result }
 {
-    if memo.len() < MEMO {
-        let mut own = [0u64; MEMO];
-        return ask_block(rows, kept, nodes, &mut own);
-    }
-    ask_block(rows, kept, nodes, memo)
+    with_memo(memo, |memo| ask_graph(graph, kept, nodes, memo))
 }
 
 // Each component, by lowest flip-flop.
-fn ask_block(rows: &[u64], kept: Mask, nodes: &mut [u64], memo: &mut [u64]) -> Asked
-    requires { Sound rows.now × (length nodes.old ≤ 65536) }
-    ensures { AskAnswer rows.now (number kept) (length nodes.old) result }
+fn ask_graph(
+    graph: Graph,
+    kept: Mask,
+    nodes: &mut [u64],
+    memo: &mut [u64],
+) -> Result<Asked, Refusal>
+    requires { length nodes.old ≤ 65536 }
+    ensures { AskAnswer graph.entry.rows.now (number kept) (length nodes.old) result }
 {
-    let n = rows.len();
-    let reached = graphs::reach_rows(rows);
-    let mut yes = false;
+    let mut holds = false;
     let mut need = 0;
-    let mut v = graphs::next_component(&reached, n, 0);
-    while v < n {
-        let part = ask_part(
-            rows,
-            graphs::component_around(&reached, Vertex(v)),
-            kept,
-            nodes,
-            memo,
-        );
-        let Part::Fits(used, holds) = part else {
-            return Asked::Refused(Refusal {
-                number: 4,
-                place: v as u64,
+    for part in graph.components() {
+        // by `let .. else`: of `map_err` and `?` nothing is known but that it is an error
+        let Ok(asked) = ask_part(part, kept, nodes, memo) else {
+            return Err(Refusal::RoomTooSmall {
+                component: part.lowest.0,
             });
         };
-        if need < used {
-            need = used;
-        }
-        if holds {
-            yes = true;
-        }
-        v = graphs::next_component(&reached, n, v + 1);
+        need = need.max(asked.need);
+        holds |= asked.holds;
     }
-    if yes {
-        return Asked::Yes(need);
-    }
-    Asked::No(need)
+    Ok(Asked { holds, need })
 }
 
-// One component: its need, and the value of its cycle function.
-fn ask_part(rows: &[u64], members: Mask, kept: Mask, nodes: &mut [u64], memo: &mut [u64]) -> Part
-    requires { Sound rows.now × Component (edge rows.now) (number members) × (length nodes.old ≤ 65536) }
-    ensures { PartPromise (edge rows.now) (length rows.now) (number members) (number kept) (length nodes.old) result }
+// The same of one component; or that its need exceeds the room. A pick builds a component like this too, and asks it for another thing.
+fn ask_part(part: Part, kept: Mask, nodes: &mut [u64], memo: &mut [u64]) -> Result<Asked, Full>
+    requires { length nodes.old ≤ 65536 }
+    ensures { PartPromise (edge part.entry.graph.rows.now) (length part.entry.graph.rows.now) (number part.entry.members) (number kept)
+        (length nodes.old) result }
 {
-    let built = build_component(rows, members, nodes, memo);
-    let Cycle::Within(words, function) = built else {
-        return Part::Exceeds;
+    let cycle = build_component(part, nodes, memo)?;
+    let built = Nodes {
+        words: &nodes[..cycle.words],
     };
-    let room = &nodes[..words];
-    Part::Fits(nodes::used(room), nodes::value(room, function, kept))
+    Ok(Asked {
+        holds: built.value(cycle.function, kept),
+        need: built.used(),
+    })
 }

@@ -1,40 +1,46 @@
 // The passes of a component in the node room.
-ghost use Rattle.std.specs.Prelude.{◌≡◌, List, ℕ, ◌≤◌, ◌<◌, T, length};
+ghost use Rattle.std.specs.Prelude.{◌≡◌, List, ℕ, ◌≤◌, ◌<◌, T, length, replicate, slice_index};
 ghost use Rattle.masks.specs.Sets.{bit, number};
 ghost use Rattle.graphs.specs.Graph.{edge};
-ghost use Rattle.graphs.specs.Components.{Component};
-ghost use Rattle.graphs.specs.Work.{Sound};
-ghost use Rattle.nodes.specs.Codes.{Table};
-ghost use Rattle.cycles.specs.Work.{Summable, Summed, IsVariable, Multiplied, VariablesPromise, Settling};
-ghost use Rattle.cycles.specs.Work.{Ready, PassPromise, PassesPromise, Buildable, BuildPromise, ComponentPromise};
+ghost use Rattle.arrayvec.specs.ArrayVec.{array_vec_len};
+ghost use Rattle.cycles.specs.Work.{Shown, Summed, IsVariable, Multiplied, VariablesPromise, Settling};
+ghost use Rattle.cycles.specs.Work.{Ready, ones_at_first, PassPromise, PassesPromise, BuildPromise, ComponentPromise};
 
 use super::search::{Order, search_component, sources};
-use super::tables::{node_at, set_node};
+use graphs::Part;
 use masks::{Mask, Vertex};
-use nodes::{Made, Node};
+use nodes::{Full, Node, Rooms};
 
-// The cycle function of a component: in the first so many words of the node room, of which exactly the need is in use; or its need exceeds the room.
+// The cycle function of a component: it stands in the first so many words of the node room, of which exactly the need is in use.
 #[derive(Clone, Copy)]
-pub enum Cycle {
-    Within(usize, Node),
-    Exceeds,
+pub struct Cycle {
+    pub words: usize,
+    pub function: Node,
 }
 
-// The cycle function of a component, in a part of the rooms where that is enough. What they held matters not: "the node room is emptied before each".
-pub fn build_component(rows: &[u64], members: Mask, nodes: &mut [u64], memo: &mut [u64]) -> Cycle
-    requires { Sound rows.now × Component (edge rows.now) (number members) × (length nodes.old ≤ 65536) }
-    ensures { ComponentPromise (edge rows.now) (length rows.now) (number members) nodes.new result }
+// What a component's passes go by: its order, and at each member its in-neighbours and its variable. Tables are arrays of 64, since the memory is fixed.
+#[derive(Clone, Copy)]
+struct Wiring<'a> {
+    order: &'a Order,
+    sources: &'a [u64; 64],
+    variables: &'a [Node; 64],
+    ghost inner: { (k : ℕ) → k < array_vec_len order.now.flops → slice_index order.now.flops.items k < 64 },
+}
+
+// The cycle function of a component, in a part of the rooms where that is enough. What they held matters not: "the node room is emptied before each". The two
+// rooms are lent apart: in a struct, each function that takes them would say in two clauses more that they are the same slices afterwards.
+pub fn build_component(part: Part, nodes: &mut [u64], memo: &mut [u64]) -> Result<Cycle, Full>
+    requires { length nodes.old ≤ 65536 }
+    ensures { ComponentPromise (edge part.entry.graph.rows.now) (length part.entry.graph.rows.now) (number part.entry.members) nodes.new result }
 {
-    let words = first_words(members, nodes.len());
-    if nodes.len() <= words {
-        return build_in(rows, members, nodes, memo);
+    let words = first_words(part.members, nodes.len());
+    if words < nodes.len() {
+        let memory = first_words(part.members, memo.len());
+        if let Ok(cycle) = build_in(part, &mut nodes[..words], &mut memo[..memory]) {
+            return Ok(cycle);
+        }
     }
-    let memory = first_words(members, memo.len());
-    let built = build_in(rows, members, &mut nodes[..words], &mut memo[..memory]);
-    let Cycle::Exceeds = built else {
-        return built;
-    };
-    build_in(rows, members, nodes, memo)
+    build_in(part, nodes, memo)
 }
 
 // How many of a room's words to work in at first. They are enough for nearly every component of so many flip-flops; and since a room is emptied and its words
@@ -42,179 +48,150 @@ pub fn build_component(rows: &[u64], members: Mask, nodes: &mut [u64], memo: &mu
 fn first_words(members: Mask, room: usize) -> usize
     ensures { result ≤ room }
 {
-    let m = members.count();
-    let enough = if m <= 10 {
-        4096
-    } else if m <= 16 {
-        16384
-    } else {
-        room
+    let enough = match members.count() {
+        0..=10 => 4096,
+        11..=16 => 16384,
+        _ => room,
     };
-    nodes::fewer(enough, room)
+    enough.min(room)
 }
 
 // In the whole of the lent rooms, emptied.
-fn build_in(rows: &[u64], members: Mask, nodes: &mut [u64], memo: &mut [u64]) -> Cycle
-    requires { Sound rows.now × Component (edge rows.now) (number members) × (length nodes.old ≤ 65536) }
-    ensures { ComponentPromise (edge rows.now) (length rows.now) (number members) nodes.new result }
+fn build_in(part: Part, nodes: &mut [u64], memo: &mut [u64]) -> Result<Cycle, Full>
+    requires { length nodes.old ≤ 65536 }
+    ensures { ComponentPromise (edge part.entry.graph.rows.now) (length part.entry.graph.rows.now) (number part.entry.members) nodes.new result }
 {
     nodes::clear(nodes);
     nodes::clear(memo);
-    match build(rows, members, nodes, memo) {
-        Made::At(function) => Cycle::Within(nodes.len(), function),
-        Made::Full => Cycle::Exceeds,
-    }
+    let function = build(part, &mut Rooms { nodes, memo })?;
+    Ok(Cycle {
+        words: nodes.len(),
+        function,
+    })
 }
 
 // The cycle function of a component in an empty node room, of which exactly the need is then in use; or that the room is too small.
-fn build(rows: &[u64], members: Mask, nodes: &mut [u64], memo: &mut [u64]) -> Made
-    requires { Buildable rows.now (number members) nodes.old memo.old }
-    ensures { BuildPromise (edge rows.now) (length rows.now) (number members) nodes.new result }
+fn build(part: Part, rooms: &mut Rooms) -> Result<Node, Full>
+    requires { rooms.old.nodes.now ≡ replicate (length rooms.old.nodes.now) 0 }
+    ensures same_nodes { rooms.new.nodes.ghost_name ≡ rooms.old.nodes.ghost_name }
+    ensures same_memo { rooms.new.memo.ghost_name ≡ rooms.old.memo.ghost_name }
+    ensures built { BuildPromise (edge part.entry.graph.rows.now) (length part.entry.graph.rows.now) (number part.entry.members) rooms.new.nodes.now result }
 {
-    let order = search_component(rows, members);
-    let from = sources(rows, members);
-    let mut variables = [0u64; 64];
-    if !make_variables(nodes, members, &mut variables) {
-        return Made::Full;
-    }
-    let mut table = [1u64; 64];
-    if !make_passes(nodes, memo, order, &from, &variables, &mut table) {
-        return Made::Full;
-    }
-    any_of(nodes, memo, order.back, &table)
+    let order = search_component(part);
+    let from = sources(part);
+    let variables = make_variables(rooms, part.members)?;
+    let wiring = Wiring {
+        order: &order,
+        sources: &from,
+        variables: &variables,
+    };
+    let table = make_passes(rooms, wiring)?;
+    any_of(rooms, order.back, &table)
 }
 
-// The variables of the members, into a table.
-fn make_variables(nodes: &mut [u64], members: Mask, variables: &mut [u64]) -> bool
-    requires { Table nodes.old × ((v : ℕ) → T (bit (number members) v) → v < 64) × (length variables.old ≡ 64) }
-    ensures { VariablesPromise nodes.old nodes.new variables.new (number members) result }
+// The variables of the members, at their numbers in a table.
+fn make_variables(rooms: &mut Rooms, members: Mask) -> Result<[Node; 64], Full>
+    ensures same_nodes { rooms.new.nodes.ghost_name ≡ rooms.old.nodes.ghost_name }
+    ensures same_memo { rooms.new.memo.ghost_name ≡ rooms.old.memo.ghost_name }
+    ensures made { VariablesPromise rooms.old.nodes.now rooms.new.nodes.now (number members) result }
 {
-    let mut v = members.next_member(0);
-    while v < 64 {
-        let made = nodes::variable(nodes, Vertex(v));
-        let Made::At(node) = made else {
-            return false;
-        };
-        set_node(variables, Vertex(v), node);
-        v = members.next_member(v + 1);
+    let mut variables = [Node::OFF; 64];
+    for v in members.members() {
+        variables[v.0] = rooms.variable(v)?;
     }
-    true
+    Ok(variables)
 }
 
-// Passes until one changes no member of B, at most as many as B has members. At the members of B the table has F0 before, and the last pass afterwards.
-fn make_passes(
-    nodes: &mut [u64],
-    memo: &mut [u64],
-    order: Order,
-    sources: &[u64],
-    variables: &[u64],
-    table: &mut [u64],
-) -> bool
-    requires { (rows : List ℕ) × (C : ℕ) × Ready rows C 0 nodes.old memo.old order sources.now variables.now table.old }
-    ensures { (rows : List ℕ) (C : ℕ)
-        → Ready rows C 0 nodes.old memo.old order sources.now variables.now table.old
-        → PassesPromise rows C nodes.old nodes.new memo.new table.new result }
+// Passes until one changes no member of B, at most as many as B has members. At the members of B the table has F0 at first, and the last pass in the end.
+fn make_passes(rooms: &mut Rooms, wiring: Wiring) -> Result<[Node; 64], Full>
+    requires { (rows : List ℕ) × (C : ℕ) × Ready rows C 0 rooms.old.nodes.now wiring.order.now wiring.sources.now wiring.variables.now ones_at_first }
+    ensures same_nodes { rooms.new.nodes.ghost_name ≡ rooms.old.nodes.ghost_name }
+    ensures same_memo { rooms.new.memo.ghost_name ≡ rooms.old.memo.ghost_name }
+    ensures passes { (rows : List ℕ) (C : ℕ)
+        → Ready rows C 0 rooms.old.nodes.now wiring.entry.order.now wiring.entry.sources.now wiring.entry.variables.now ones_at_first
+        → PassesPromise rows C rooms.old.nodes.now rooms.new.nodes.now result }
 {
-    let most = order.back.count();
-    let mut next = [0u64; 64];
-    let mut made = 0;
-    while made < most {
-        if !pass(nodes, memo, order, sources, variables, table, &mut next) {
-            return false;
-        }
-        made += 1;
-        if settle(order.back, table, &next) {
-            return true;
+    let mut table = [Node::ON; 64];
+    let mut next = [Node::OFF; 64];
+    for _ in 0..wiring.order.back.count() {
+        pass(rooms, wiring, &mut table, &mut next)?;
+        if settle(wiring.order.back, &mut table, &next) {
+            break;
         }
     }
-    true
+    Ok(table)
 }
 
 // One pass, the last ended flip-flop first. The table has what each flip-flop hands on: a member of B what it had in the last pass, any other what it has
 // in this one. What the members of B have in this one is next.
 fn pass(
-    nodes: &mut [u64],
-    memo: &mut [u64],
-    order: Order,
-    sources: &[u64],
-    variables: &[u64],
-    table: &mut [u64],
-    next: &mut [u64],
-) -> bool
-    requires { ((rows : List ℕ) × (C : ℕ) × (i : ℕ) × Ready rows C i nodes.old memo.old order sources.now variables.now table.old)
-        × (length next.old ≡ 64) }
-    ensures { (rows : List ℕ) (C i : ℕ)
-        → Ready rows C i nodes.old memo.old order sources.now variables.now table.old
-        → PassPromise rows C i nodes.old nodes.new memo.new table.new next.new result }
+    rooms: &mut Rooms,
+    wiring: Wiring,
+    table: &mut [Node; 64],
+    next: &mut [Node; 64],
+) -> Result<(), Full>
+    requires { (rows : List ℕ) × (C : ℕ) × (i : ℕ) × Ready rows C i rooms.old.nodes.now wiring.order.now wiring.sources.now wiring.variables.now table.old }
+    ensures same_nodes { rooms.new.nodes.ghost_name ≡ rooms.old.nodes.ghost_name }
+    ensures same_memo { rooms.new.memo.ghost_name ≡ rooms.old.memo.ghost_name }
+    ensures passed { (rows : List ℕ) (C i : ℕ)
+        → Ready rows C i rooms.old.nodes.now wiring.entry.order.now wiring.entry.sources.now wiring.entry.variables.now table.old
+        → PassPromise rows C i rooms.old.nodes.now rooms.new.nodes.now table.new next.new result }
 {
-    let flops = order.flops;
-    let mut i = order.count;
-    while 0 < i {
-        i -= 1;
-        let v = Vertex(flops[i]);
-        let made = product(
-            nodes,
-            memo,
-            node_at(variables, v),
-            Mask::row(sources, v),
-            table,
-        );
-        let Made::At(node) = made else {
-            return false;
-        };
+    let Wiring {
+        order,
+        sources,
+        variables,
+    } = wiring;
+    // by place, since what has passed is what stands behind it
+    let ended = order.flops.as_slice();
+    for i in (0..ended.len()).rev() {
+        let v = Vertex(ended[i]);
+        let node = product(rooms, variables[v.0], Mask::row(sources, v), table)?;
         if order.back.has(v) {
-            set_node(next, v, node);
+            next[v.0] = node;
         } else {
-            set_node(table, v, node);
+            table[v.0] = node;
         }
     }
-    true
+    Ok(())
 }
 
 // "v AND the OR over in-neighbours u" of what they hand on.
-fn product(nodes: &mut [u64], memo: &mut [u64], variable: Node, from: Mask, table: &[u64]) -> Made
-    requires { Summable nodes.old memo.old table.now (number from) × ((v : ℕ) × IsVariable nodes.old variable.0 v) }
-    ensures { Multiplied nodes.old nodes.new memo.new table.now variable.0 (number from) result }
+fn product(rooms: &mut Rooms, variable: Node, from: Mask, table: &[Node; 64]) -> Result<Node, Full>
+    requires variable { (v : ℕ) × IsVariable rooms.old.nodes.now variable.0 v }
+    requires table { Shown rooms.old.nodes.now table.now (number from) }
+    ensures same_nodes { rooms.new.nodes.ghost_name ≡ rooms.old.nodes.ghost_name }
+    ensures same_memo { rooms.new.memo.ghost_name ≡ rooms.old.memo.ghost_name }
+    ensures made { Multiplied rooms.old.nodes.now rooms.new.nodes.now table.now variable.0 (number from) result }
 {
-    let made = any_of(nodes, memo, from, table);
-    let Made::At(all) = made else {
-        return Made::Full;
-    };
-    nodes::and(nodes, memo, variable, all)
+    let all = any_of(rooms, from, table)?;
+    rooms.and(variable, all)
 }
 
 // The OR over a set of what the table has.
-fn any_of(nodes: &mut [u64], memo: &mut [u64], set: Mask, table: &[u64]) -> Made
-    requires { Summable nodes.old memo.old table.now (number set) }
-    ensures { Summed nodes.old nodes.new memo.new table.now (number set) result }
+fn any_of(rooms: &mut Rooms, set: Mask, table: &[Node; 64]) -> Result<Node, Full>
+    requires { Shown rooms.old.nodes.now table.now (number set) }
+    ensures same_nodes { rooms.new.nodes.ghost_name ≡ rooms.old.nodes.ghost_name }
+    ensures same_memo { rooms.new.memo.ghost_name ≡ rooms.old.memo.ghost_name }
+    ensures made { Summed rooms.old.nodes.now rooms.new.nodes.now table.now (number set) result }
 {
-    let mut all = Node(0);
-    let mut u = set.next_member(0);
-    while u < 64 {
-        let made = nodes::or(nodes, memo, all, node_at(table, Vertex(u)));
-        let Made::At(node) = made else {
-            return Made::Full;
-        };
-        all = node;
-        u = set.next_member(u + 1);
+    let mut all = Node::OFF;
+    for u in set.members() {
+        all = rooms.or(all, table[u.0])?;
     }
-    Made::At(all)
+    Ok(all)
 }
 
 // The pass becomes the last one; whether it changed no member of B.
-fn settle(back: Mask, table: &mut [u64], next: &[u64]) -> bool
-    requires { (length table.old ≡ 64) × (length next.now ≡ 64) }
+fn settle(back: Mask, table: &mut [Node; 64], next: &[Node; 64]) -> bool
     ensures { Settling (number back) table.old next.now table.new result }
 {
     let mut same = true;
-    let mut b = back.next_member(0);
-    while b < 64 {
-        let node = node_at(next, Vertex(b));
-        if node_at(table, Vertex(b)).0 != node.0 {
+    for b in back.members() {
+        if table[b.0] != next[b.0] {
             same = false;
         }
-        set_node(table, Vertex(b), node);
-        b = back.next_member(b + 1);
+        table[b.0] = next[b.0];
     }
     same
 }

@@ -1,25 +1,28 @@
-use Rattle.std.proofs.Common.{arith}
-use Rattle.masks.proofs.Nexts.{next_up}
-use Rattle.cycles.proofs.Sums.{sum-none, sum-joinable, sum_step, sum-full, sum_done}
+use Rattle.std.proofs.Common.{refl, ◌∙◌}
+use Rattle.cycles.proofs.Sums.{sum-none, sum-left, sum-right, sum-step, sum-full, sum_done}
+use Rattle.nodes.proofs.Ordering.{full-table}
 use Rattle.cycles.proofs.making.any_of.Goals as goal
 
 pub loop-u-init : goal.loop-u-init
-loop-u-init c = sum-none _ _ _ _ _ c.requires.table c.requires.memo c.next_member-u.ensures
+loop-u-init c =
+    (refl, refl, sum-none _ _ _ _ (full-table c.args.rooms.now.table) (c.into_iter-u-iterator.ensures.into_iter_gives ∙ c.members-u-items.ensures))
 
-pub or-made-requires : goal.or-made-requires
-or-made-requires c = sum-joinable _ _ _ _ _ _ _ _ c.loop-u-test.true c.node_at.ensures c.loop-u.invariant _ c.requires
+pub or-requires-clause-left : goal.or-requires-clause-left
+or-requires-clause-left c = sum-left _ _ _ _ _ _ c.loop-u.invariant.2 _ _ c.in-Some.ensures.steps.1 c.requires
 
-pub returns-in_default : goal.returns-in_default
-returns-in_default c =
-    sum-full _ _ _ _ _ _ _ _ c.loop-u-test.true c.node_at.ensures c.loop-u.invariant _ _ _ c.or-made.ensures c.in_default.is
+pub or-requires-clause-right : goal.or-requires-clause-right
+or-requires-clause-right c = sum-right _ _ _ _ _ _ c.loop-u.invariant.2 _ _ c.in-Some.ensures.steps.1 c.requires
 
-pub loop-u-smaller : goal.loop-u-smaller
-loop-u-smaller c = omega (arith, next_up _ _ _ c.next_member-u-in-loop-u.ensures (omega arith))
+pub returns-in_err-all-clause-made : goal.returns-in_err-all-clause-made
+returns-in_err-all-clause-made c =
+    sum-full _ _ _ _ _ _ c.loop-u.invariant.2 _ _ c.in-Some.ensures.steps.1 _ _ _ c.in_err-all.ensures.joined _ c.from_residual.ensures.0
 
 pub loop-u-preserved : goal.loop-u-preserved
-loop-u-preserved c =
-    sum_step _ _ _ _ _ _ _ _ c.loop-u-test.true c.node_at.ensures c.loop-u.invariant _ _ _ _ _ c.or-made.ensures c.in-At.is
-    c.next_member-u-in-loop-u.ensures
+loop-u-preserved c = (
+  c.or.ensures.same_nodes ∙ c.loop-u.invariant.0,
+  c.or.ensures.same_memo ∙ c.loop-u.invariant.1,
+  sum-step _ _ _ _ _ _ c.loop-u.invariant.2 _ _ c.in-Some.ensures.steps.1 _ _ _ c.in_ok-all.ensures.joined,
+)
 
-pub returns : goal.returns
-returns c = sum_done _ _ _ _ _ _ _ c.loop-u-test.false c.loop-u.invariant
+pub returns-clause-made : goal.returns-clause-made
+returns-clause-made c = sum_done _ _ _ _ _ _ c.in-None.ensures.steps.1.0 c.loop-u.invariant.2

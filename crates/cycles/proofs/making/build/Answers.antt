@@ -1,55 +1,38 @@
 -- The search and the sources, the variables, the passes, and the OR over B.
-use Rattle.std.proofs.Common.{refl}
-use Rattle.cycles.proofs.Builds.{members-in, members-small, begin-table, variables-full, first-ready, passes-full, last-summable, build-done}
+use Rattle.graphs.proofs.Whole.{part-component}
+use Rattle.cycles.proofs.Builds.{inner-flops, variables-full, first-ready, passes-full, last-shown, build-done}
 use Rattle.cycles.proofs.making.build.Goals as goal
 
-pub sources-from-requires : goal.sources-from-requires
-sources-from-requires c = (c.requires.sound.few, members-in _ _ c.requires.sound c.requires.component)
+pub returns-in_err-variables-clause-built : goal.returns-in_err-variables-clause-built
+returns-in_err-variables-clause-built c =
+    variables-full _ _ c.args.part.graph.sound (part-component c.args.part) _ c.args.rooms.now.table.small c.requires
+    _ _ c.in_err-variables.ensures.made _ c.from_residual.ensures.0
 
-pub make_variables-requires : goal.make_variables-requires
-make_variables-requires c =
-    let b = c.requires in
-    (begin-table _ _ b.sound b.component _ _ b, members-small _ _ b.sound b.component, refl)
-
-pub returns-then-not-make_variables : goal.returns-then-not-make_variables
-returns-then-not-make_variables c =
-    let b = c.requires in
-    let v = c.make_variables in
-    variables-full _ _ b.sound b.component _ _ b v.new.nodes v.new.variables v.result v.ensures c.if-not-make_variables.true
+pub invariant_of-wiring : goal.invariant_of-wiring
+invariant_of-wiring c = record { inner = inner-flops _ _ c.args.part.graph.sound (part-component c.args.part) _ c.search_component-order.ensures }
 
 pub make_passes-requires : goal.make_passes-requires
-make_passes-requires c =
-    let b = c.requires in
-    let v = c.make_variables in (
-      _,
-      _,
-      first-ready _ _ b.sound b.component _ _ b v.new.nodes v.new.variables v.result v.ensures c.if-not-make_variables.false _ _
-          c.search_component-order.ensures v.auto.variables c.sources-from.ensures,
-    )
+make_passes-requires c = (
+  _,
+  _,
+  first-ready _ _ c.args.part.graph.sound (part-component c.args.part) _ c.args.rooms.now.table.small c.requires
+      _ _ c.in_ok-variables.ensures.made _ _ c.search_component-order.ensures c.sources-from.ensures.incoming,
+)
 
-pub returns-then-not-make_passes : goal.returns-then-not-make_passes
-returns-then-not-make_passes c =
-    let b = c.requires in
-    let v = c.make_variables in
-    let p = c.make_passes in
-    passes-full _ _ b.sound b.component _ _ b v.new.nodes v.new.variables v.result v.ensures c.if-not-make_variables.false _ _
-    c.search_component-order.ensures v.auto.variables c.sources-from.ensures
-    p.new.nodes p.new.memo p.new.table p.result p.ensures c.if-not-make_passes.true
+pub returns-in_err-table-clause-built : goal.returns-in_err-table-clause-built
+returns-in_err-table-clause-built c =
+    passes-full _ _ c.args.part.graph.sound (part-component c.args.part) _ c.args.rooms.now.table.small c.requires
+    _ _ c.in_ok-variables.ensures.made _ _ c.search_component-order.ensures c.sources-from.ensures.incoming
+    _ _ c.in_err-table.ensures.passes _ c.from_residual-in_err-table.ensures.0
 
 pub any_of-requires : goal.any_of-requires
 any_of-requires c =
-    let b = c.requires in
-    let v = c.make_variables in
-    let p = c.make_passes in
-    last-summable _ _ b.sound b.component _ _ b v.new.nodes v.new.variables v.result v.ensures c.if-not-make_variables.false _ _
-    c.search_component-order.ensures v.auto.variables c.sources-from.ensures
-    p.new.nodes p.new.memo p.new.table p.result p.ensures c.if-not-make_passes.false p.auto.table
+    last-shown _ _ c.args.part.graph.sound (part-component c.args.part) _ c.args.rooms.now.table.small c.requires
+    _ _ c.in_ok-variables.ensures.made _ _ c.search_component-order.ensures c.sources-from.ensures.incoming
+    _ _ c.in_ok-table.ensures.passes
 
-pub returns : goal.returns
-returns c =
-    let b = c.requires in
-    let v = c.make_variables in
-    let p = c.make_passes in
-    build-done _ _ b.sound b.component _ _ b v.new.nodes v.new.variables v.result v.ensures c.if-not-make_variables.false _ _
-    c.search_component-order.ensures v.auto.variables c.sources-from.ensures
-    p.new.nodes p.new.memo p.new.table p.result p.ensures c.if-not-make_passes.false _ _ _ c.any_of.ensures
+pub returns-clause-built : goal.returns-clause-built
+returns-clause-built c =
+    build-done _ _ c.args.part.graph.sound (part-component c.args.part) _ c.args.rooms.now.table.small c.requires
+    _ _ c.in_ok-variables.ensures.made _ _ c.search_component-order.ensures c.sources-from.ensures.incoming
+    _ _ c.in_ok-table.ensures.passes _ _ c.any_of.ensures.made

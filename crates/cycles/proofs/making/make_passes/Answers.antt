@@ -1,37 +1,29 @@
 use Rattle.std.proofs.Common.{refl, ◌∙◌}
+use Rattle.nodes.proofs.Ordering.{full-table}
 use Rattle.cycles.proofs.Rounds.{round-none, round-ready, round-full, round-next, round-settled}
 use Rattle.cycles.proofs.making.make_passes.Goals as goal
 
-pub loop-made-init : goal.loop-made-init
-loop-made-init c = (refl, refl, λ rows C r. round-none rows C _ _ _ _ _ _ r)
+pub loop-init : goal.loop-init
+loop-init c = (refl, refl, λ rows C r. round-none rows C _ _ _ _ r (full-table c.args.rooms.now.table))
 
 pub pass-requires : goal.pass-requires
-pass-requires c =
-    let r = c.requires.2 in
-    let i = c.loop-made.invariant in
-    ((_, _, _, round-ready _ _ _ _ _ _ _ _ r _ _ _ _ i.0 (i.2 _ _ r)), i.1)
+pass-requires c = (_, _, _, round-ready _ _ _ _ _ _ c.requires.2 _ _ _ (c.loop.invariant.2 _ _ c.requires.2))
 
-pub returns-then-not-pass : goal.returns-then-not-pass
-returns-then-not-pass c rows C r =
-    let i = c.loop-made.invariant in
-    let p = c.pass in
-    round-full rows C _ _ _ _ _ _ r _ _ _ _ i.0 (i.2 _ _ r) _ c.count-most.ensures c.loop-made-test.true
-    p.new.nodes p.new.memo p.new.table p.new.next p.result p.ensures c.if-not-pass.true
+pub returns-in_err-pass-clause-passes : goal.returns-in_err-pass-clause-passes
+returns-in_err-pass-clause-passes c rows C r =
+    round-full rows C _ _ _ _ r _ _ _ (c.loop.invariant.2 _ _ r) _ c.count-end.ensures c.loop-test.true
+    _ c.pass.new.table c.pass.new.next _ c.in_err-pass.ensures.passed _ c.from_residual.ensures.0
 
-pub returns-then-settle : goal.returns-then-settle
-returns-then-settle c rows C r =
-    let i = c.loop-made.invariant in
-    let p = c.pass in
-    round-settled rows C _ _ _ _ _ _ r _ _ _ _ i.0 (i.2 _ _ r) _ c.count-most.ensures c.loop-made-test.true
-    p.new.nodes p.new.memo p.new.table p.new.next p.result p.ensures c.if-not-pass.false _ _ c.settle.ensures c.if-settle.true
+pub loop-preserved : goal.loop-preserved
+loop-preserved c = (
+  c.pass.ensures.same_nodes ∙ c.loop.invariant.0,
+  c.pass.ensures.same_memo ∙ c.loop.invariant.1,
+  λ rows C r.
+      round-next rows C _ _ _ _ r _ _ _ (c.loop.invariant.2 _ _ r) _ c.count-end.ensures c.loop-test.true
+      _ _ _ _ c.in_ok-pass.ensures.passed _ _ c.settle.ensures,
+)
 
-pub loop-made-preserved : goal.loop-made-preserved
-loop-made-preserved c =
-    let i = c.loop-made.invariant in
-    let p = c.pass in (
-      c.settle.auto.table ∙ p.auto.table ∙ i.0,
-      p.auto.next ∙ i.1,
-      λ rows C r.
-          round-next rows C _ _ _ _ _ _ r _ _ _ _ i.0 (i.2 _ _ r) _ c.count-most.ensures c.loop-made-test.true
-          p.new.nodes p.new.memo p.new.table p.new.next p.result p.ensures c.if-not-pass.false _ _ c.settle.ensures,
-    )
+pub returns-then-settle-clause-passes : goal.returns-then-settle-clause-passes
+returns-then-settle-clause-passes c rows C r =
+    round-settled rows C _ _ _ _ r _ _ _ (c.loop.invariant.2 _ _ r) _ c.count-end.ensures c.loop-test.true
+    _ _ _ _ c.in_ok-pass.ensures.passed _ _ c.settle.ensures c.if-settle.true

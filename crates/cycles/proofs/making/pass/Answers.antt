@@ -1,70 +1,53 @@
-use Rattle.std.proofs.Common.{◌∙◌, arith}
-use Rattle.cycles.proofs.Passing.{below, may, pass-full, pass-back, pass-other, pass-done}
+use Rattle.std.proofs.Common.{◌≡◌, refl, ◌∙◌, ap, arith, List, ℕ, length, slice_index_or}
+use Rattle.nodes.proofs.Ordering.{full-table}
+use Rattle.cycles.proofs.Passing.{pass-none, may-join, may-sum, pass-full, pass-back, pass-other, pass-done}
 use Rattle.cycles.proofs.making.pass.Goals as goal
 
-pub node_at-requires : goal.node_at-requires
-node_at-requires c =
-    let r = c.requires.0.3 in
-    let i = c.loop-i.invariant in
-    omega (arith, r.long.1, below _ _ _ _ _ _ _ _ _ r _ _ _ _ _ c.loop-i-test.true i.0 (i.3 _ _ _ r))
+-- an entry of the order, out of the slice that it is read from
+at : {xs ys : List ℕ} (k : ℕ) → xs ≡ ys → slice_index_or xs k 0 ≡ slice_index_or ys k 0
+at k e = ap (λ zs. slice_index_or zs k 0) e
 
-pub row-requires : goal.row-requires
-row-requires c =
-    let r = c.requires.0.3 in
-    let i = c.loop-i.invariant in
-    omega (arith, r.long.0, below _ _ _ _ _ _ _ _ _ r _ _ _ _ _ c.loop-i-test.true i.0 (i.3 _ _ _ r))
+pub loop-i-init : goal.loop-i-init
+loop-i-init c =
+    (refl, refl, omega (arith, ap length c.as_slice-ended.ensures.value), λ rows C j r. pass-none rows C j _ _ _ _ _ r _ (ap length c.as_slice-ended.ensures.value) _ (full-table c.args.rooms.now.table) c.told-table c.told-next)
 
-pub product-made-requires : goal.product-made-requires
-product-made-requires c =
-    let r = c.requires.0.3 in
+pub product-requires-clause-variable : goal.product-requires-clause-variable
+product-requires-clause-variable c =
     let i = c.loop-i.invariant in
-    may _ _ _ _ _ _ _ _ _ r _ _ _ _ _ c.loop-i-test.true i.0 (i.3 _ _ _ r) _ _ c.node_at.ensures c.row.ensures i.1
+    may-join _ _ _ _ _ _ _ _ c.requires.3 _ _ _ _ c.loop-i-test.true i.2 (i.3 _ _ _ c.requires.3) _ (at _ c.as_slice-ended.ensures.value) _ refl
 
-pub returns-in_default : goal.returns-in_default
-returns-in_default c rows C j r =
+pub product-requires-clause-table : goal.product-requires-clause-table
+product-requires-clause-table c =
     let i = c.loop-i.invariant in
-    pass-full rows C j _ _ _ _ _ _ r _ _ _ _ _ c.loop-i-test.true i.0 (i.3 _ _ _ r) _ _ _ _ _
-    c.node_at.ensures c.row.ensures c.product-made.ensures c.in_default.is
+    may-sum _ _ _ _ _ _ _ _ c.requires.3 _ _ _ _ c.loop-i-test.true i.2 (i.3 _ _ _ c.requires.3) _ (at _ c.as_slice-ended.ensures.value) _ c.row.ensures
 
-pub has-requires : goal.has-requires
-has-requires c =
-    let r = c.requires.0.3 in
+pub returns-in_err-node-clause-passed : goal.returns-in_err-node-clause-passed
+returns-in_err-node-clause-passed c rows C j r =
     let i = c.loop-i.invariant in
-    below _ _ _ _ _ _ _ _ _ r _ _ _ _ _ c.loop-i-test.true i.0 (i.3 _ _ _ r)
-
-pub set_node-requires : goal.set_node-requires
-set_node-requires c =
-    let r = c.requires.0.3 in
-    let i = c.loop-i.invariant in
-    omega (arith, i.2, below _ _ _ _ _ _ _ _ _ r _ _ _ _ _ c.loop-i-test.true i.0 (i.3 _ _ _ r))
+    pass-full rows C j _ _ _ _ _ r _ _ _ _ c.loop-i-test.true i.2 (i.3 _ _ _ r) _ (at _ c.as_slice-ended.ensures.value) _ _ _ _ refl c.row.ensures c.in_err-node.ensures.made
+    c.loop-i.table c.loop-i.next _ c.from_residual.ensures.0
 
 pub loop-i-preserved-then-has : goal.loop-i-preserved-then-has
 loop-i-preserved-then-has c =
     let i = c.loop-i.invariant in (
+      c.product.ensures.same_nodes ∙ i.0,
+      c.product.ensures.same_memo ∙ i.1,
       omega arith,
-      i.1,
-      c.set_node.auto.table ∙ i.2,
       λ rows C j r.
-          pass-back rows C j _ _ _ _ _ _ r _ _ _ _ _ c.loop-i-test.true i.0 (i.3 _ _ _ r) _ _ _ _ _
-          c.node_at.ensures c.row.ensures c.product-made.ensures _ c.in-At.is _ _ i.2 c.has.ensures c.if-has.true c.set_node.ensures,
+          pass-back rows C j _ _ _ _ _ r _ _ _ _ c.loop-i-test.true i.2 (i.3 _ _ _ r) _ (at _ c.as_slice-ended.ensures.value) _ _ _ _ refl c.row.ensures c.in_ok-node.ensures.made
+          _ _ c.has.ensures c.if-has.true refl,
     )
-
-pub set_node-requires-else-has : goal.set_node-requires-else-has
-set_node-requires-else-has c =
-    let r = c.requires.0.3 in
-    let i = c.loop-i.invariant in
-    omega (arith, i.1, r.long.2, below _ _ _ _ _ _ _ _ _ r _ _ _ _ _ c.loop-i-test.true i.0 (i.3 _ _ _ r))
 
 pub loop-i-preserved : goal.loop-i-preserved
 loop-i-preserved c =
     let i = c.loop-i.invariant in (
+      c.product.ensures.same_nodes ∙ i.0,
+      c.product.ensures.same_memo ∙ i.1,
       omega arith,
-      c.set_node-else-has.auto.table ∙ i.1,
-      i.2,
       λ rows C j r.
-          pass-other rows C j _ _ _ _ _ _ r _ _ _ _ _ c.loop-i-test.true i.0 (i.3 _ _ _ r) _ _ _ _ _
-          c.node_at.ensures c.row.ensures c.product-made.ensures _ c.in-At.is _ _ i.1 c.has.ensures c.if-has.false c.set_node-else-has.ensures,
+          pass-other rows C j _ _ _ _ _ r _ _ _ _ c.loop-i-test.true i.2 (i.3 _ _ _ r) _ (at _ c.as_slice-ended.ensures.value) _ _ _ _ refl c.row.ensures c.in_ok-node.ensures.made
+          _ _ c.has.ensures c.if-has.false refl,
     )
 
-pub returns : goal.returns
-returns c rows C j r = pass-done rows C j _ _ _ _ _ _ r _ _ _ _ _ (omega arith) (c.loop-i.invariant.3 _ _ _ r)
+pub returns-clause-passed : goal.returns-clause-passed
+returns-clause-passed c rows C j r = pass-done rows C j _ _ _ _ _ r _ _ _ _ (omega arith) (c.loop-i.invariant.3 _ _ _ r)

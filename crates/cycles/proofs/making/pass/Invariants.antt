@@ -6,8 +6,7 @@ use Rattle.cycles.proofs.making.pass.Given as goal
 
 abbrev pub invariant-loop-i : goal.invariant-loop-i
 invariant-loop-i l =
-    (l.i ≤ l.order.count) × (length l.table ≡ length l.initial.table) × (length l.next ≡ 64)
-    × ((rows : List ℕ) (C j : ℕ) → Ready rows C j l.initial.nodes l.initial.memo l.order l.sources l.variables l.initial.table → Passing rows C l.order j l.initial.nodes l.i l.nodes l.memo l.table l.next)
-
-abbrev pub decreases-loop-i : goal.decreases-loop-i
-decreases-loop-i l = l.i
+    (l.rooms.nodes.ghost_name ≡ l.initial.rooms.nodes.ghost_name) × (l.rooms.memo.ghost_name ≡ l.initial.rooms.memo.ghost_name)
+    × (l.i ≤ length l.order.flops.items)
+    × ((rows : List ℕ) (C j : ℕ) → Ready rows C j l.initial.rooms.nodes.now l.order l.sources l.variables l.initial.table
+    → Passing rows C l.order j l.initial.rooms.nodes.now l.i l.rooms.nodes.now l.table l.next)

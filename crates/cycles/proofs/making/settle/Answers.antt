@@ -1,21 +1,24 @@
-use Rattle.std.proofs.Common.{◌∙◌, sym, arith}
+use Rattle.std.proofs.Common.{◌∙◌, refl, sym, not, nat_eq, ℕ, ◌≡◌, false}
 use Rattle.std.proofs.lemmas.Bool.{false≢true}
-use Rattle.masks.proofs.Nexts.{next_up}
-use Rattle.cycles.proofs.Settles.{take_none, take_step}
+use borrow.Author.Tests.{eqb-true, not-false}
+use Rattle.cycles.proofs.Settles.{take_none, take_step, take_done}
 use Rattle.cycles.proofs.making.settle.Goals as goal
-use Rattle.cycles.proofs.making.settle.Goals.{then-node_at-node, else-node_at-node}
+use Rattle.cycles.proofs.making.settle.Goals.{then-ne, else-ne}
 
 pub loop-b-init : goal.loop-b-init
-loop-b-init c = take_none _ _ _ _ c.requires.0 c.next_member-b.ensures
+loop-b-init c = take_none _ _ _ _ c.told-table (c.into_iter-b-iterator.ensures.into_iter_gives ∙ c.members-b-items.ensures)
 
-pub loop-b-smaller : goal.loop-b-smaller
-loop-b-smaller c = omega (arith, next_up _ _ _ c.next_member-b-in-loop-b.ensures (omega arith))
+same_codes : (x y : ℕ) → not (nat_eq x y) ≡ false → x ≡ y
+same_codes x y e = eqb-true x y (not-false _ e)
 
 pub loop-b-preserved : goal.loop-b-preserved
 loop-b-preserved c =
-    elim c.if-node_at-node.branch [
-      | then-node_at-node w ↦ take_step _ _ _ _ _ _ _ _ _ _ _ c.loop-b-test.true c.node_at-node.ensures c.node_at.ensures
-          c.set_node.ensures c.next_member-b-in-loop-b.ensures (λ e. absurd (false≢true (sym w.same-is ∙ e))) c.loop-b.invariant
-      | else-node_at-node w ↦ take_step _ _ _ _ _ _ _ _ _ _ _ c.loop-b-test.true c.node_at-node.ensures c.node_at.ensures
-          c.set_node.ensures c.next_member-b-in-loop-b.ensures (λ e. (sym w.same-is ∙ e, w.if-node_at-node.false)) c.loop-b.invariant
+    elim c.if-ne.branch [
+      | then-ne w ↦ take_step _ _ _ _ _ _ c.loop-b.invariant _ _ c.in-Some.ensures.steps.1 _ _ _ refl refl
+          (λ e. absurd (false≢true (sym w.same-is ∙ e)))
+      | else-ne w ↦ take_step _ _ _ _ _ _ c.loop-b.invariant _ _ c.in-Some.ensures.steps.1 _ _ _ refl refl
+          (λ e. (sym w.same-is ∙ e, same_codes _ _ (sym c.ne.ensures ∙ w.if-ne.false)))
     ]
+
+pub returns : goal.returns
+returns c = take_done _ _ _ _ _ _ c.in-None.ensures.steps.1.0 c.loop-b.invariant

@@ -1,17 +1,18 @@
-use Rattle.std.proofs.Common.{arith}
-use Rattle.masks.proofs.Nexts.{next_up}
+use Rattle.std.proofs.Common.{◌∙◌, rules}
+use Rattle.graphs.proofs.Whole.{part-component}
+use Rattle.cycles.proofs.Builds.{members-in}
 use Rattle.cycles.proofs.Incoming.{set_first, set_more, set_all}
 use Rattle.cycles.proofs.search.sources.Goals as goal
 
 pub loop-v-init : goal.loop-v-init
-loop-v-init c = set_first _ _ _ c.next_member-v.ensures
+loop-v-init c = set_first _ _ _ (c.into_iter-v-iterator.ensures.into_iter_gives ∙ c.members-v-items.ensures)
 
-pub loop-v-smaller : goal.loop-v-smaller
-loop-v-smaller c = omega (arith, next_up _ _ _ c.next_member-v-in-loop-v.ensures (omega arith))
+pub holders-requires : goal.holders-requires
+holders-requires c = let part = c.args.part in (search rules, part.graph.sound.few, λ u l t. members-in _ _ part.graph.sound (part-component part) u t)
 
 pub loop-v-preserved : goal.loop-v-preserved
 loop-v-preserved c =
-    set_more _ _ _ _ _ _ _ _ c.loop-v-test.true c.next_member-v-in-loop-v.ensures c.holders.ensures c.cut.ensures c.set_row.ensures c.loop-v.invariant
+    set_more _ _ _ _ _ _ _ _ _ c.in-Some.ensures.steps.1 c.holders.ensures c.cut.ensures c.set_row.ensures c.loop-v.invariant
 
-pub returns : goal.returns
-returns c = (c.loop-v.invariant.rowed.long, set_all _ _ _ _ c.requires.0 c.requires.1 c.loop-v-test.false c.loop-v.invariant)
+pub returns-clause-incoming : goal.returns-clause-incoming
+returns-clause-incoming c = set_all _ _ _ _ c.in-None.ensures.steps.1.0 c.loop-v.invariant

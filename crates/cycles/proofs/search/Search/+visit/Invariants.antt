@@ -3,13 +3,10 @@ use Rattle.std.proofs.Common.{◌-◌, length}
 use Rattle.masks.specs.Sets.{number}
 use Rattle.cycles.specs.Work.{size}
 use Rattle.cycles.proofs.Visiting.{Looking}
-use Rattle.cycles.proofs.search.+visit.Given as goal
+use Rattle.cycles.proofs.search.Search.+visit.Given as goal
 
 abbrev pub decreases-visit : goal.decreases-visit
-decreases-visit l = length l.rows.now - size (length l.rows.now) (number l.going)
+decreases-visit l = length l.self.now.part.graph.rows.now - size (length l.self.now.part.graph.rows.now) (number l.going)
 
 abbrev pub invariant-loop-w : goal.invariant-loop-w
-invariant-loop-w l = Looking l.rows (number l.members) l.v.0 (number l.on) l.initial.s l.s l.w
-
-abbrev pub decreases-loop-w : goal.decreases-loop-w
-decreases-loop-w l = 64 - l.w
+invariant-loop-w l = Looking l.v.0 (number l.on) l.initial.self l.self l.w-iterator
