@@ -1,22 +1,23 @@
 -- The blocks of document 01 that are marked there, and a few more, in one table with one statement: each is answered as the table says. Every row is proved
 -- by computing the model once. Assumes nothing.
 use mathlib.Core.Path.{◌≡◌, refl, ap, ◌∙◌}
+use mathlib.Core.Bool.{Bool, true, false}
 use mathlib.Core.List.{List, [], ◌∷◌, map}
 use mathlib.Core.Option.{Option, none}
 use Prim.Native.Nat.{ℕ, min}
 use lib.ListN.{length}
+use Rattle.std.specs.Prelude.{Result, Ok, Err}
 use Rattle.graphs.specs.Refusals.{first, checks}
-use Rattle.graphs.specs.declared.Refusal.{Refusal}
+use Rattle.graphs.specs.declared.refusal.Refusal.{Refusal}
+use Rattle.graphs.proofs.Tables.{refusal_at}
 use Rattle.masks.proofs.Numbers.{mask_of}
 use Rattle.nodes.specs.Rooms.{capacity, emptied, zeroed}
 use Rattle.cycles.specs.Promise.{ask_lines, AskPromise}
 use Rattle.cycles.specs.declared.Asked.{Asked}
-use Rattle.cycles.specs.declared.Asked.TheVariants.{Yes, No}
 use Rattle.cycles.proofs.Asks.{ask_model, ask-meets}
-use Rattle.cycles.proofs.Blocks.{block_a, block_aa, refused as ask_refused}
+use Rattle.cycles.proofs.Blocks.{block_a, block_aa}
 use Rattle.picker.specs.Promise.{PickPromise}
 use Rattle.picker.specs.declared.Picked.{Picked}
-use Rattle.picker.specs.declared.Picked.TheVariants.{Set, Refused}
 use Rattle.picker.proofs.Model.{pick_model, pick_meets}
 use Rattle.picker.proofs.Computing.{computing}
 
@@ -24,15 +25,18 @@ use Rattle.picker.proofs.Computing.{computing}
 
 -- a block with a room and the answer: of a pick the costs stand beside the rows, of a question the kept set
 pub data Entry : Type 0 where
-  picking : (rows costs : List ℕ) (room : ℕ) → Picked → Entry
-  asking : (rows : List ℕ) (kept room : ℕ) → Asked → Entry
+  picking : (rows costs : List ℕ) (room : ℕ) → Result Picked Refusal → Entry
+  asking : (rows : List ℕ) (kept room : ℕ) → Result Asked Refusal → Entry
 
--- answers of a pick: a set with its cost and the largest need, and a refusal by number and place
-abbrev pub set : ℕ → ℕ → ℕ → Picked
-set S cost need = Set (mask_of S) cost need
+-- an answer of a pick: a set with its cost and the largest need; one of a question, with its largest need; and a refusal by number and place
+abbrev pub set : ℕ → ℕ → ℕ → Result Picked Refusal
+set S cost need = Ok (record { set = mask_of S; cost = cost; need = need })
 
-abbrev pub refused : ℕ → ℕ → Picked
-refused number place = Refused (record { number = number; place = place })
+abbrev pub asked : Bool → ℕ → Result Asked Refusal
+asked holds need = Ok (record { holds = holds; need = need })
+
+abbrev pub refused : {A : Type 0} → ℕ → ℕ → Result A Refusal
+refused number place = Err (refusal_at number place)
 
 -- 0>1, 1>0
 abbrev pub pair : List ℕ
@@ -70,15 +74,15 @@ table =
     -- "A and a copy at 4 to 7, room 8: mask 153, cost 4"
     ∷ picking block_aa costs_aa 8 (set 153 4 8)
     -- "Ask A, kept {1, 2}: no", "Kept {0, 1, 2}: yes (room 4,096)"
-    ∷ asking block_a 6 usual (No 15)
-    ∷ asking block_a 7 usual (Yes 15)
+    ∷ asking block_a 6 usual (asked false 15)
+    ∷ asking block_a 7 usual (asked true 15)
     -- a block whose need one more pass would raise to 9
     ∷ picking (2 ∷ 5 ∷ 3 ∷ []) (1 ∷ 1 ∷ 0 ∷ []) usual (set 2 1 8)
     -- a block that loses the loop 0 3 where a pass uses its own values of members of B
     ∷ picking (14 ∷ 12 ∷ 2 ∷ 7 ∷ []) (1 ∷ 4 ∷ 1 ∷ 3 ∷ []) usual (set 12 4 19)
     -- a component whose lowest flip-flop the reduction removes: the place is the lowest that is left, and of a question the lowest of all
     ∷ picking (10 ∷ 4 ∷ 1 ∷ 4 ∷ []) (6 ∷ 1 ∷ 5 ∷ 1 ∷ []) 7 (refused 4 1)
-    ∷ asking (10 ∷ 4 ∷ 1 ∷ 4 ∷ []) 15 7 (ask_refused 4 0)
+    ∷ asking (10 ∷ 4 ∷ 1 ∷ 4 ∷ []) 15 7 (refused 4 0)
     ∷ []
 
 -- ---- the statement

@@ -3,29 +3,35 @@
 use mathlib.Core.Path.{◌≡◌, refl, sym, ap, ap₂, ◌∙◌, subst, subst₂}
 use mathlib.Core.Logic.{inl}
 use mathlib.Core.Bool.{Bool}
-use mathlib.Core.List.{List, [], ◌∷◌, ◌++◌, map}
-use Prim.Native.Nat.{ℕ, ◌+◌, ◌≤◌, ◌<◌, max}
+use mathlib.Core.List.{List, [], ◌∷◌, ◌++◌, map, append_assoc, append-nil}
+use Prim.Native.Nat.{ℕ, ◌<◌, max}
 use lib.Bits.{bit_or, or_zero_l, or_zero_r}
 use lib.Dec.{T}
 use lib.ListN.{length}
+use native.Mathlib.Omega.{arith}
+use Rattle.std.specs.Prelude.{Some, None, cond}
+use Rattle.std.proofs.Common.{Ordering, Less, Equal, Greater}
+use Rattle.std.specs.Ordering.{MatchOrdering, is_lt, nat_cmp, ord_max}
+use Rattle.std.specs.Cmp.{ranks}
 use Rattle.masks.proofs.Bits.{or_assoc}
 use Rattle.masks.specs.Sets.{bit, number}
 use Rattle.masks.specs.declared.Mask.{Mask}
-use Rattle.masks.specs.declared.Vertex.{Vertex}
 use Rattle.graphs.specs.Graph.{edge, Of, cost_of}
 use Rattle.graphs.specs.Light.{Lightest}
-use Rattle.graphs.specs.Components.{Component, Lowest, inside}
-use Rattle.graphs.specs.Work.{Sound, Around, NextComponent}
+use Rattle.graphs.specs.Components.{Component, Components, inside}
+use Rattle.graphs.specs.Coming.{Coming, NextPart}
+use Rattle.graphs.specs.Work.{Sound}
+use Rattle.graphs.specs.declared.component.Part.{Part}
 use Rattle.graphs.proofs.Lists.{map-append}
 use Rattle.graphs.proofs.Parts.{joined}
 use Rattle.graphs.proofs.Lightest.{lightest-unique}
-use Rattle.graphs.proofs.Components.{EdgesBelow, components_of, lightest-parts}
-use Rattle.graphs.proofs.InOrder.{Walking, walking-first, walking-part, walking-more, walking-all, met-more, sound-components, sound-below}
-use Rattle.cycles.specs.Needs.{Fit}
+use Rattle.graphs.proofs.Components.{EdgesBelow, lightest-parts}
+use Rattle.graphs.proofs.InOrder.{sound-below}
+use Rattle.graphs.proofs.Whole.{part-component}
+use Rattle.cycles.specs.Needs.{Fit, TooLarge}
+use Rattle.cycles.specs.Work.{TooSmall}
 use Rattle.cycles.proofs.Fits.{fit-more, excess-after}
-use Rattle.picker.specs.Work.{SetRight, SetTooLarge, SetPromise, GraphRight, GraphPromise}
-use Rattle.picker.specs.declared.components.Found.{Found}
-use Rattle.picker.specs.declared.components.Found.TheVariants as sets
+use Rattle.picker.specs.Work.{SetRight, GraphRight}
 use Rattle.picker.proofs.Picks.{best_of, best-lightest, has-edge}
 
 -- ---- sets together, one more at the end
@@ -34,75 +40,91 @@ joined-more : (Ss : List ℕ) (S : ℕ) → joined (Ss ++ (S ∷ [])) ≡ bit_or
 joined-more [] S = or_zero_r S ∙ sym (or_zero_l S)
 joined-more (R ∷ Ss) S = ap (bit_or R) (joined-more Ss S) ∙ sym (or_assoc R (joined Ss) S)
 
--- ---- the components of a graph, up to the next one, which v leads
+-- the larger one of two numbers
+pub larger : (a b : ℕ) → ord_max nat_cmp a b ≡ max a b
+larger a b = go (nat_cmp b a) (ranks b a)
+  where
+    go : (o : Ordering) → MatchOrdering o (b < a) (b ≡ a) (a < b) → cond (is_lt o) a b ≡ max a b
+    go Less l = omega arith
+    go Equal e = omega arith
+    go Greater l = omega arith
 
-pub record Swept (rows costs : List ℕ) (capacity v S need : ℕ) : Type 0 where
+-- ---- the components that were met
+
+pub record Swept (rows costs : List ℕ) (capacity S need : ℕ) (coming : Coming) : Type 0 where
   pub done : List ℕ
-  pub coming : List ℕ
-  pub walking : Walking (edge rows) (length rows) v done coming
+  pub is_of : coming.rows ≡ rows
+  pub all : Components (edge rows) (done ++ coming.left)
   pub set : S ≡ joined (map (best_of (cost_of costs) (edge rows) (length rows)) done)
   pub fit : Fit (edge rows) (length rows) capacity done need
 
-module _ (rows costs : List ℕ) (capacity : ℕ) (sound : Sound rows) where
+module _ (rows costs : List ℕ) (capacity : ℕ) where
   abbrev E : ℕ → ℕ → Bool
   E = edge rows
 
   abbrev f : ℕ → ℕ
   f = best_of (cost_of costs) E (length rows)
 
-  low : EdgesBelow E (length rows)
-  low = sound-below rows sound
+  low : Sound rows → EdgesBelow E (length rows)
+  low sound = sound-below rows sound
 
-  pub swept_none : (v : ℕ) (S : Mask) → NextComponent E (length rows) 0 v → number S ≡ 0 → Swept rows costs capacity v (number S) 0
-  swept_none v S x z = record { done = []; coming = components_of rows; walking = walking-first (sound-components rows sound) x; set = z; fit = refl }
+  pub swept_none : (S : Mask) → number S ≡ 0 → (begun coming : Coming) → coming ≡ begun → begun.rows ≡ rows → Components E begun.left
+      → Swept rows costs capacity (number S) 0 coming
+  swept_none S z begun coming e is_of all =
+      record {
+        done = [];
+        is_of = ap (λ (k : Coming). k.rows) e ∙ is_of;
+        all = subst (λ (k : Coming). Components E k.left) (sym e) all;
+        set = z;
+        fit = refl;
+      }
 
-  module _ {v S need : ℕ} (s : Swept rows costs capacity v S need) where
+  module _ (sound : Sound rows) {S need : ℕ} {coming after : Coming} (s : Swept rows costs capacity S need coming) where
     -- at the end
-    pub swept_all : length rows ≤ v → GraphRight rows costs capacity S need
-    swept_all l =
-        let a = walking-all low s.walking l in
+    pub swept_all : NextPart coming None after → GraphRight rows costs capacity S need
+    swept_all step =
+        let comps : Components E s.done = subst (Components E) (ap (λ z. s.done ++ z) step.0.0 ∙ append-nil s.done) s.all in
         let lights : (C : ℕ) → Of C s.done → Lightest (cost_of costs) (length rows) (λ R. (u : ℕ) → T (bit R u) → T (bit C u)) (inside E C) (f C) =
-        λ C m. best-lightest low ((a.1.all C).0 m) (cost_of costs) in
+        λ C m. best-lightest (low sound) ((comps.all C).0 m) (cost_of costs) in
         rw s.set
         (record {
-          lightest = lightest-parts a.1 low f lights;
-          linked = has-edge low a.1 (cost_of costs) f lights;
-          largest = record { parts = s.done; are = a.1; fit = s.fit };
+          lightest = lightest-parts comps (low sound) f lights;
+          linked = has-edge (low sound) comps (cost_of costs) f lights;
+          largest = record { parts = s.done; are = comps; fit = s.fit };
         })
 
     -- the next one
-    module _ (C : ℕ) (l : v < length rows) (around : Around E v C) where
-      pub next-part : Component E C × Lowest C v
-      next-part = walking-part C s.walking l around
+    module _ (part : Part) (step : NextPart coming (Some part) after) where
+      abbrev C : ℕ
+      C = number part.members
 
-      rest : (w : ℕ) → NextComponent E (length rows) (v + 1) w
-          → (Es : List ℕ) × (s.coming ≡ C ∷ Es) × Walking E (length rows) w (s.done ++ (C ∷ [])) Es
-      rest w x = walking-more s.walking l next-part.0 next-part.1 x
+      pub same_rows : part.graph.rows.now ≡ rows
+      same_rows = step.2 ∙ s.is_of
 
-      -- fits, as the answer of the case says
-      pub swept-more : {r : Found} (w room k : ℕ) (R S' : Mask) (m : ℕ) → room ≡ capacity → r ≡ sets.Set R k → SetPromise rows costs C room r
-          → NextComponent E (length rows) (v + 1) w → number S' ≡ bit_or S (number R) → m ≡ max need k → Swept rows costs capacity w (number S') m
-      swept-more w room k R S' m z d h x e q =
-          let p : SetRight rows costs C capacity (number R) k = subst₂ (SetPromise rows costs C) z d h in
-          let same : number R ≡ f C = lightest-unique p.lightest (best-lightest low next-part.0 (cost_of costs)) in
+      -- fits
+      pub swept-more : (k : ℕ) (R S' : Mask) (m room : ℕ) → room ≡ capacity → SetRight part.graph.rows.now costs C room (number R) k
+          → number S' ≡ bit_or S (number R) → m ≡ max need k → Swept rows costs capacity (number S') m after
+      swept-more k R S' m room same told e q =
+          let p = subst₂ (λ rs j. SetRight rs costs C j (number R) k) same_rows same told in
+          let found : Component E C = subst (λ rs. Component (edge rs) C) same_rows (part-component part) in
+          let is_best : number R ≡ f C = lightest-unique p.lightest (best-lightest (low sound) found (cost_of costs)) in
           record {
             done = s.done ++ (C ∷ []);
-            coming = (rest w x).0;
-            walking = (rest w x).2;
-            set = e ∙ ap₂ bit_or s.set same ∙ sym (joined-more (map f s.done) (f C)) ∙ ap joined (sym (map-append f s.done (C ∷ [])));
+            is_of = step.1 ∙ s.is_of;
+            all = subst (Components E) (ap (λ z. s.done ++ z) step.0 ∙ sym (append_assoc s.done (C ∷ []) after.left)) s.all;
+            set = e ∙ ap₂ bit_or s.set is_best ∙ sym (joined-more (map f s.done) (f C)) ∙ ap joined (sym (map-append f s.done (C ∷ [])));
             fit = rw q (fit-more E (length rows) capacity s.done need C k s.fit p.counts p.fits);
           }
 
       -- does not fit
-      pub swept-over : (r : Found) (room : ℕ) (place : Vertex) → room ≡ capacity → r ≡ sets.TooLarge place → SetPromise rows costs C room r
-          → GraphPromise rows costs capacity r
-      swept-over r room place z d h =
-          let p : SetTooLarge rows C capacity place.0 = subst₂ (SetPromise rows costs C) z d h in
-          subst (GraphPromise rows costs capacity) (sym d)
-          (record {
-            parts = s.done ++ s.coming;
-            are = s.walking.met.all;
+      pub swept-over : (room : ℕ) → room ≡ capacity → TooSmall (edge part.graph.rows.now) (length part.graph.rows.now) C room
+          → TooLarge E (length rows) capacity part.lowest.0
+      swept-over room same told =
+          let p = subst₂ (λ rs j. TooSmall (edge rs) (length rs) C j) same_rows same told in
+          record {
+            parts = s.done ++ coming.left;
+            are = s.all;
             excess =
-                excess-after E (length rows) capacity s.done s.coming need place.0 s.fit
-                (rw (met-more s.walking.next l next-part.0 next-part.1 s.walking.met).1 (p.need, p.is, inl (p.exceeds, p.lowest)));
-          })
+                excess-after E (length rows) capacity s.done coming.left need part.lowest.0 s.fit
+                (rw step.0 (p.0, p.1, inl (p.2, part.led)));
+          }

@@ -8,7 +8,6 @@ pub mod Useless
 pub mod Errors
 pub mod Notes
 pub mod Choosing
-pub mod Summing
 pub mod Walking
 pub mod OneComponent
 pub mod EachComponent

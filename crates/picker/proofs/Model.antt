@@ -6,12 +6,14 @@ use mathlib.Core.Option.{Option, none, some}
 use Prim.Native.Nat.{ℕ}
 use lib.Bits.{bit_or}
 use lib.ListN.{length}
+use Rattle.std.specs.Prelude.{Result, Ok, Err}
 use Rattle.masks.specs.Sets.{weight, number}
 use Rattle.graphs.specs.Graph.{edge, cost_of}
 use Rattle.graphs.specs.Light.{Lightest}
 use Rattle.graphs.specs.Components.{Components}
 use Rattle.graphs.specs.Refusals.{first, checks}
-use Rattle.graphs.specs.declared.Refusal.{Refusal}
+use Rattle.graphs.specs.declared.refusal.Refusal.{Refusal}
+use Rattle.graphs.specs.declared.refusal.Refusal.TheVariants.{RoomTooSmall}
 use Rattle.graphs.proofs.Loops.{RowsFit}
 use Rattle.graphs.proofs.Parts.{joined}
 use Rattle.graphs.proofs.Components.{components_of, components-found}
@@ -23,33 +25,32 @@ use Rattle.cycles.proofs.Fits.{Fitting, fits, exceeds, fitting, Fits, fitting-is
 use Rattle.cycles.proofs.Asks.{after}
 use Rattle.picker.specs.Promise.{left_rows, PickAnswer, PickCases, PickPromise}
 use Rattle.picker.specs.declared.Picked.{Picked}
-use Rattle.picker.specs.declared.Picked.TheVariants.{Set, Refused}
 use Rattle.picker.proofs.Picks.{best_of, reduced, reduced-fits, reduced-edges, best-pick}
 
 -- ---- the answer, computed
 
 -- the set S with its cost and the largest need; or that a component does not fit
-abbrev pub picked_by : (ℕ → ℕ) → ℕ → Fitting → ℕ → Picked
-picked_by c n (fits m) S = Set (mask_of S) (weight c n S) m
-picked_by c n (exceeds p) S = Refused (record { number = 4; place = p })
+abbrev pub picked_by : (ℕ → ℕ) → ℕ → Fitting → ℕ → Result Picked Refusal
+picked_by c n (fits m) S = Ok (record { set = mask_of S; cost = weight c n S; need = m })
+picked_by c n (exceeds p) S = Err (RoomTooSmall p)
 
 -- the forced set joined with the best sets of the components
 abbrev pub chosen : (ℕ → ℕ) → ℕ → State → List ℕ → ℕ
 chosen c n s Cs = bit_or s.forced (joined (map (best_of c (edge s.rows) n) Cs))
 
 -- where the reduction left s, with the components Cs
-abbrev pub picked_from : (ℕ → ℕ) → ℕ → ℕ → State → List ℕ → Picked
+abbrev pub picked_from : (ℕ → ℕ) → ℕ → ℕ → State → List ℕ → Result Picked Refusal
 picked_from c n room s Cs = picked_by c n (fitting (edge s.rows) n room Cs) (chosen c n s Cs)
 
-abbrev pub picked_of : (ℕ → ℕ) → ℕ → ℕ → State → Picked
+abbrev pub picked_of : (ℕ → ℕ) → ℕ → ℕ → State → Result Picked Refusal
 picked_of c n room s = picked_from c n room s (components_of s.rows)
 
-abbrev pub pick_by : Option Refusal → List ℕ → List ℕ → ℕ → Picked
-pick_by (some r) rows costs room = Refused r
+abbrev pub pick_by : Option Refusal → List ℕ → List ℕ → ℕ → Result Picked Refusal
+pick_by (some r) rows costs room = Err r
 pick_by none rows costs room = picked_of (cost_of costs) (length rows) room (reduced (cost_of costs) rows)
 
 -- the answer for rows, costs and a capacity
-unfoldable pub pick_model : List ℕ → List ℕ → ℕ → Picked
+unfoldable pub pick_model : List ℕ → List ℕ → ℕ → Result Picked Refusal
 pick_model rows costs room = pick_by (first (checks rows (length costs))) rows costs room
 
 -- the rooms after it

@@ -4,30 +4,21 @@ use mathlib.Core.Path.{◌≡◌, refl, sym, ap, ◌∙◌, subst}
 use mathlib.Core.Logic.{◌≢◌}
 use mathlib.Core.List.{List}
 use mathlib.Core.Option.{some}
-use Prim.Native.Nat.{ℕ, ◌+◌, ◌*◌, ◌/◌, ◌^◌, ◌<◌}
+use Prim.Native.Nat.{ℕ, ◌+◌, ◌*◌, ◌-◌, ◌%◌, ◌^◌, ◌<◌}
 use native.Mathlib.Omega.{arith}
-use native.Mathlib.Nat.{mul-le-mul_right, mul-lt-mul_of_pos_right}
 use native.Mathlib.Decide.{ℕ_discrete}
+use lib.Bits.{bit_and, bit_or, and_mask, or_shifted}
 use lib.ListN.{length, get_or, set, length-set}
 use lib.Seq.{get_or-set_same, get_or-set_other}
+use Rattle.std.specs.Prelude.{Some}
 use Rattle.masks.specs.Sets.{number, weight}
-use Rattle.masks.specs.declared.Mask.{Mask}
 use Rattle.masks.proofs.Weights.{weight-none}
 use Rattle.graphs.proofs.Lists.{all_alike}
 use Rattle.trees.specs.Tree.{Tree, off}
 use Rattle.nodes.specs.Codes.{Stands, is_off, is_on, is_br}
 use Rattle.nodes.specs.Rooms.{zeroed}
-use Rattle.picker.specs.Work.{Told, code_and_cost, code_in, cost_in, Weighed, BestMemo, Small, Recalled, Remembered}
+use Rattle.picker.specs.Work.{Told, code_and_cost, code_in, cost_in, Weighed, BestMemo, Recalled, Remembered}
 use Rattle.picker.specs.declared.best.Best.{Best}
-use Rattle.picker.specs.declared.best.Best.TheVariants.{Set}
-
--- ---- a place
-
-pub scaled_fits : (x p : ℕ) → x < 2 ^ 32 → p < 2 ^ 17 → x * p < 2 ^ 64
-scaled_fits x p l k = omega (arith, mul-le-mul_right {m = x} {n = 2 ^ 32} p (omega arith))
-
-pub scaled-lt : (x p : ℕ) → x < 2 ^ 32 → 0 < p → x * p / 2 ^ 32 < p
-scaled-lt x p l k = omega (arith, mul-lt-mul_of_pos_right {m = x} {n = 2 ^ 32} {k = p} l k)
 
 -- ---- a word
 
@@ -38,6 +29,17 @@ code-noted code k l = omega arith
 pub cost-noted : (code k : ℕ) → k < 2 ^ 40 → cost_in (code_and_cost code k) ≡ k
 unfolding cost_in code_and_cost
 cost-noted code k l = omega arith
+
+-- shifts and masks compute the same
+pub note-is : (code k : ℕ) → code < 2 ^ 17 → k < 2 ^ 40 → bit_or (code * 2 ^ 40 % 2 ^ 64) k ≡ code_and_cost code k
+unfolding code_and_cost
+note-is code k l h =
+    let e : code * 2 ^ 40 % 2 ^ 64 ≡ code * 2 ^ 40 = omega arith in
+    rw e (or_shifted code 40 k h)
+
+pub cost-masked : (w : ℕ) → bit_and w (2 ^ 40 - 1) ≡ cost_in w
+unfolding cost_in
+cost-masked w = and_mask w 40
 
 -- ---- a zeroed room
 
@@ -54,50 +56,41 @@ memo-none c n ws old ms e i t s =
 
 -- ---- reading
 
-pub recalled : (ms : List ℕ) (code i k : ℕ) (S : Mask) → code_in (get_or ms (2 * i) 0) ≡ code → k ≡ cost_in (get_or ms (2 * i) 0)
-    → number S ≡ get_or ms (2 * i + 1) 0 → Recalled ms code (Set k S)
-recalled ms code i k S e f g c n ws m t s =
+pub recalled : (ms : List ℕ) (code i : ℕ) (b : Best) → code_in (get_or ms (2 * i) 0) ≡ code → b.cost ≡ cost_in (get_or ms (2 * i) 0)
+    → number b.set ≡ get_or ms (2 * i + 1) 0 → Recalled ms code (Some b)
+recalled ms code i b e f g c n ws m t s =
     let w : Weighed c n t (cost_in (get_or ms (2 * i) 0)) (get_or ms (2 * i + 1) 0) = m i t (subst (λ x. Stands ws x t) (sym e) s) in
     record { set = ap some g ∙ sym w.set; priced = f ∙ w.cost ∙ ap (weight c n) (sym g) }
 
 -- ---- writing
 
-remembered : (ms ms' : List ℕ) (code i k : ℕ) (S : Mask) → 2 * i + 1 < length ms → k < 2 ^ 40
-    → ms' ≡ set (set ms (2 * i) (code_and_cost code k)) (2 * i + 1) (number S) → Remembered ms ms' code (Set k S)
-remembered ms ms' code i k S l b e c n ws m told j t s = go (ℕ_discrete j i)
+pub remembered : (ms ms' : List ℕ) (code i : ℕ) (b : Best) → 2 * i + 1 < length ms → b.cost < 2 ^ 40
+    → ms' ≡ set (set ms (2 * i) (code_and_cost code b.cost)) (2 * i + 1) (number b.set) → Remembered ms ms' code b
+remembered ms ms' code i b l h e c n ws m told j t s = go (ℕ_discrete j i)
   where
     once : List ℕ
-    once = set ms (2 * i) (code_and_cost code k)
+    once = set ms (2 * i) (code_and_cost code b.cost)
 
-    at : (x : ℕ) → get_or ms' x 0 ≡ get_or (set once (2 * i + 1) (number S)) x 0
+    at : (x : ℕ) → get_or ms' x 0 ≡ get_or (set once (2 * i + 1) (number b.set)) x 0
     at x = ap (λ xs. get_or xs x 0) e
 
     go : Dec (j ≡ i) → Weighed c n t (cost_in (get_or ms' (2 * j) 0)) (get_or ms' (2 * j + 1) 0)
     go (yes q) =
         let q' : j ≡ i = q in
-        let first : get_or ms' (2 * j) 0 ≡ code_and_cost code k =
-        at (2 * j) ∙ get_or-set_other once (2 * i + 1) (2 * j) (number S) 0 (omega arith) ∙ ap (λ x. get_or once (2 * x) 0) q
-        ∙ get_or-set_same ms (2 * i) (code_and_cost code k) 0 (omega arith) in
-        let second : get_or ms' (2 * j + 1) 0 ≡ number S =
-        at (2 * j + 1) ∙ ap (λ x. get_or (set once (2 * i + 1) (number S)) (2 * x + 1) 0) q
-        ∙ get_or-set_same once (2 * i + 1) (number S) 0 (omega (arith, length-set ms (2 * i) (code_and_cost code k))) in
-        let r : Told c n t (Set k S) = told t (subst (λ x. Stands ws x t) (ap code_in first ∙ code-noted code k b) s) in
-        rw (first, second, cost-noted code k b) (record { set = sym r.set; cost = r.priced })
+        let first : get_or ms' (2 * j) 0 ≡ code_and_cost code b.cost =
+        at (2 * j) ∙ get_or-set_other once (2 * i + 1) (2 * j) (number b.set) 0 (omega arith) ∙ ap (λ x. get_or once (2 * x) 0) q
+        ∙ get_or-set_same ms (2 * i) (code_and_cost code b.cost) 0 (omega arith) in
+        let second : get_or ms' (2 * j + 1) 0 ≡ number b.set =
+        at (2 * j + 1) ∙ ap (λ x. get_or (set once (2 * i + 1) (number b.set)) (2 * x + 1) 0) q
+        ∙ get_or-set_same once (2 * i + 1) (number b.set) 0 (omega (arith, length-set ms (2 * i) (code_and_cost code b.cost))) in
+        let r : Told c n t (Some b) = told t (subst (λ x. Stands ws x t) (ap code_in first ∙ code-noted code b.cost h) s) in
+        rw (first, second, cost-noted code b.cost h) (record { set = sym r.set; cost = r.priced })
     go (no q) =
         let q' : j ≢ i = q in
         let first : get_or ms' (2 * j) 0 ≡ get_or ms (2 * j) 0 =
-        at (2 * j) ∙ get_or-set_other once (2 * i + 1) (2 * j) (number S) 0 (omega arith)
-        ∙ get_or-set_other ms (2 * i) (2 * j) (code_and_cost code k) 0 (omega arith) in
+        at (2 * j) ∙ get_or-set_other once (2 * i + 1) (2 * j) (number b.set) 0 (omega arith)
+        ∙ get_or-set_other ms (2 * i) (2 * j) (code_and_cost code b.cost) 0 (omega arith) in
         let second : get_or ms' (2 * j + 1) 0 ≡ get_or ms (2 * j + 1) 0 =
-        at (2 * j + 1) ∙ get_or-set_other once (2 * i + 1) (2 * j + 1) (number S) 0 (omega arith)
-        ∙ get_or-set_other ms (2 * i) (2 * j + 1) (code_and_cost code k) 0 (omega arith) in
+        at (2 * j + 1) ∙ get_or-set_other once (2 * i + 1) (2 * j + 1) (number b.set) 0 (omega arith)
+        ∙ get_or-set_other ms (2 * i) (2 * j + 1) (code_and_cost code b.cost) 0 (omega arith) in
         rw (first, second) (m j t (subst (λ x. Stands ws (code_in x) t) first s))
-
--- an answer that is known to hold a set
-pub small_one : {r : Best} {k : ℕ} {S : Mask} → r ≡ Set k S → Small r → k < 2 ^ 40
-small_one e h = subst Small e h
-
-pub remembered-one : {r : Best} {k : ℕ} {S : Mask} → r ≡ Set k S → (ms ms' : List ℕ) (code i : ℕ) → 2 * i + 1 < length ms → Small r
-    → ms' ≡ set (set ms (2 * i) (code_and_cost code k)) (2 * i + 1) (number S) → Remembered ms ms' code r
-remembered-one {r} {k} {S} e ms ms' code i l h f =
-    subst (Remembered ms ms' code) (sym e) (remembered ms ms' code i k S l (small_one e h) f)

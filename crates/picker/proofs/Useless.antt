@@ -7,11 +7,12 @@ use mathlib.Core.Option.{none}
 use Prim.Native.Nat.{ℕ}
 use native.Mathlib.Omega.{arith}
 use lib.ListN.{length}
+use Rattle.std.specs.Prelude.{Result, Ok, Err}
 use Rattle.masks.specs.Sets.{number}
 use Rattle.masks.specs.declared.Mask.{Mask}
 use Rattle.graphs.specs.Graph.{edge, cost_of}
 use Rattle.graphs.specs.Refusals.{first, checks}
-use Rattle.graphs.specs.declared.Refusal.{Refusal}
+use Rattle.graphs.specs.declared.refusal.Refusal.{Refusal}
 use Rattle.graphs.proofs.Components.{components_of}
 use Rattle.reduction.specs.Rules.{State, start, run}
 use Rattle.masks.proofs.Numbers.{mask_of}
@@ -20,7 +21,6 @@ use Rattle.cycles.proofs.Fits.{fits, exceeds, fitting}
 use Rattle.cycles.proofs.Blocks.{block_a}
 use Rattle.picker.specs.Promise.{PickPromise}
 use Rattle.picker.specs.declared.Picked.{Picked}
-use Rattle.picker.specs.declared.Picked.TheVariants.{Set, Refused}
 use Rattle.picker.proofs.Model.{chosen, pick_model, nodes_model, memo_model, pick_meets}
 use Rattle.picker.proofs.Unique.{pick_is}
 use Rattle.picker.proofs.Computing.{computing}
@@ -28,7 +28,7 @@ use Rattle.picker.proofs.Blocks.{pair, costs_a, set}
 
 -- an answer with both rooms as they are left
 pub record Outcome : Type 0 where
-  pub answer : Picked
+  pub answer : Result Picked Refusal
   pub nodes : List ℕ
   pub memo : List ℕ
 
@@ -46,9 +46,9 @@ abbrev pub Always : (List ℕ → List ℕ → List ℕ → List ℕ → Type 0)
 Always P = (rows costs nodes memo : List ℕ) → first (checks rows (length costs)) ≡ none → P rows costs nodes memo
 
 -- where the answer is a set, its mask, cost and need are so
-abbrev pub Says : (Mask → ℕ → ℕ → Type 0) → Picked → Type 0
-Says P (Set S k m) = P S k m
-Says P (Refused r) = Unit {0}
+abbrev pub Says : (Mask → ℕ → ℕ → Type 0) → Result Picked Refusal → Type 0
+Says P (Ok p) = P p.set p.cost p.need
+Says P (Err r) = Unit {0}
 
 -- the model keeps it
 pub model-keeps : Keeps (λ rows costs nodes memo.
@@ -96,16 +96,16 @@ module _ (f : Picker) (keeps : Keeps f) where
       (keeps rows costs nodes memo)).0
 
   -- one that always refuses
-  pub not-refusing : Always (λ rows costs nodes memo. (r : Refusal) × ((f rows costs nodes memo).answer ≡ Refused r)) → ⊥
+  pub not-refusing : Always (λ rows costs nodes memo. (r : Refusal) × ((f rows costs nodes memo).answer ≡ Err r)) → ⊥
   unfolding computing
   not-refusing h =
       let r = h pair (5 ∷ 5 ∷ []) [] [] refl in
-      let e : Refused r.0 ≡ set 1 5 0 = sym r.1 ∙ is-model pair (5 ∷ 5 ∷ []) [] [] ∙ worked.low in
+      let e : Err r.0 ≡ set 1 5 0 = sym r.1 ∙ is-model pair (5 ∷ 5 ∷ []) [] [] ∙ worked.low in
       let z : ◌≡◌ {A = ℕ} 0 1 = cc in
       omega arith
 
   -- what f says of a set, it says of the model's
-  said : (P : Mask → ℕ → ℕ → Type 0) (rows costs nodes memo : List ℕ) (answer : Picked) → pick_model rows costs (capacity nodes) ≡ answer
+  said : (P : Mask → ℕ → ℕ → Type 0) (rows costs nodes memo : List ℕ) (answer : Result Picked Refusal) → pick_model rows costs (capacity nodes) ≡ answer
       → Says P (f rows costs nodes memo).answer → Says P answer
   said P rows costs nodes memo answer e h = subst (Says P) (is-model rows costs nodes memo ∙ e) h
 

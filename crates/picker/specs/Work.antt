@@ -1,82 +1,70 @@
 -- What the contracts of the code say in between. No part of document 01. Assumes nothing.
-use Rattle.std.specs.Prelude.{◌≡◌, false, List, ℕ, ◌+◌, ◌*◌, ◌/◌, ◌%◌, ◌^◌, ◌≤◌, ◌<◌, T, length, get_or}
+use Rattle.std.specs.Prelude.{◌≡◌, false, List, ℕ, ◌+◌, ◌*◌, ◌/◌, ◌%◌, ◌^◌, ◌≤◌, ◌<◌, T, length, get_or, Result, Ok, Err, Some, None}
+use Rattle.std.specs.Prelude as prelude
 use Rattle.std.proofs.Math.Option.{Option, none, some}
 use Rattle.masks.specs.Sets.{bit, number, weight}
 use Rattle.graphs.specs.Graph.{edge, cost_of}
 use Rattle.graphs.specs.Light.{Lightest}
-use Rattle.graphs.specs.Components.{Lowest, inside}
-use Rattle.graphs.specs.Work.{Sound}
+use Rattle.graphs.specs.Components.{inside}
+use Rattle.graphs.specs.Refusals.{number_of, place_of}
+use Rattle.graphs.specs.declared.refusal.Refusal.{Refusal}
 use Rattle.trees.specs.Tree.{Tree, Ordered}
 use Rattle.trees.specs.Best.{Under, lighter, best}
 use Rattle.trees.specs.Need.{Need}
 use Rattle.nodes.specs.Codes.{Stands}
+use Rattle.nodes.specs.declared.Full.{Full}
 use Rattle.cycles.specs.Passes.{functions}
 use Rattle.cycles.specs.Needs.{Answered, TooLarge}
+use Rattle.cycles.specs.Work.{TooSmall}
 use Rattle.picker.specs.declared.best.Best.{Best}
-use Rattle.picker.specs.declared.best.Best.TheVariants.{Set, Nothing}
-use Rattle.picker.specs.declared.components.Found as sets
-
--- ---- a block
-
--- rows and costs of a block, a node room that counts whole, and a memo room for one node at least
-pub record Pickable (rows costs ws ms : List ℕ) : Type 0 where
-  pub sound : Sound rows
-  pub even : length costs ≡ length rows
-  pub small : length ws ≤ 65536
-  pub pairs : 2 ≤ length ms
+use Rattle.picker.specs.declared.components.Found.{Found}
 
 -- ---- the lightest set by components
 
--- of the component C: the lightest set that meets every loop of it, and its need; or its lowest flip-flop where the need exceeds the capacity
+-- of the component C: the lightest set that meets every loop of it, and its need; or the need exceeds the capacity
 pub record SetRight (rows costs : List ℕ) (C capacity set need : ℕ) : Type 0 where
   pub lightest : Lightest (cost_of costs) (length rows) (λ S. (v : ℕ) → T (bit S v) → T (bit C v)) (inside (edge rows) C) set
   pub counts : Need (functions (edge rows) (length rows) C) need
   pub fits : need ≤ capacity
 
-pub record SetTooLarge (rows : List ℕ) (C capacity place : ℕ) : Type 0 where
-  pub need : ℕ
-  pub is : Need (functions (edge rows) (length rows) C) need
-  pub exceeds : capacity < need
-  pub lowest : Lowest C place
+abbrev pub SetPromise : List ℕ → List ℕ → ℕ → ℕ → Result Found Full → Type 0
+SetPromise rows costs C capacity (Ok f) = SetRight rows costs C capacity (number f.set) f.need
+SetPromise rows costs C capacity (Err f) = TooSmall (edge rows) (length rows) C capacity
 
-abbrev pub SetPromise : List ℕ → List ℕ → ℕ → ℕ → sets.Found → Type 0
-SetPromise rows costs C capacity (sets.TheVariants.Set set need) = SetRight rows costs C capacity (number set) need
-SetPromise rows costs C capacity (sets.TheVariants.TooLarge v) = SetTooLarge rows C capacity v.0
-
--- of a graph: the lightest set that meets every loop of it, each member of which has an edge, and the largest need; or the place where a need is too large
+-- of a graph: the lightest set that meets every loop of it, each member of which has an edge, and the largest need; or refusal 4 with the place where a need is too large
 pub record GraphRight (rows costs : List ℕ) (capacity set need : ℕ) : Type 0 where
   pub lightest : Lightest (cost_of costs) (length rows) (λ S. Unit {0}) (edge rows) set
   pub linked : (v : ℕ) → T (bit set v) → (w : ℕ) × T (edge rows v w)
   pub largest : Answered (edge rows) (length rows) capacity need
 
-abbrev pub GraphPromise : List ℕ → List ℕ → ℕ → sets.Found → Type 0
-GraphPromise rows costs capacity (sets.TheVariants.Set set need) = GraphRight rows costs capacity (number set) need
-GraphPromise rows costs capacity (sets.TheVariants.TooLarge v) = TooLarge (edge rows) (length rows) capacity v.0
+abbrev pub GraphPromise : List ℕ → List ℕ → ℕ → Result Found Refusal → Type 0
+GraphPromise rows costs capacity (Ok f) = GraphRight rows costs capacity (number f.set) f.need
+GraphPromise rows costs capacity (Err r) = (number_of r ≡ 4) × TooLarge (edge rows) (length rows) capacity (place_of r)
 
 -- ---- the lightest set out of the node room
 
 -- the set of an answer, where there is one
-abbrev pub set_of : Best → Option ℕ
-set_of (Set k S) = some (number S)
-set_of Nothing = none
+abbrev pub set_of : prelude.Option Best → Option ℕ
+set_of (Some b) = some (number b.set)
+set_of None = none
 
 -- the cost of an answer is its set's, at the costs c of n flip-flops
-abbrev pub Priced : (ℕ → ℕ) → ℕ → Best → Type 0
-Priced c n (Set k S) = k ≡ weight c n (number S)
-Priced c n Nothing = Unit {0}
+abbrev pub Priced : (ℕ → ℕ) → ℕ → prelude.Option Best → Type 0
+Priced c n (Some b) = b.cost ≡ weight c n (number b.set)
+Priced c n None = Unit {0}
 
 -- the set of an answer lacks v
-abbrev pub Lacks : ℕ → Best → Type 0
-Lacks v (Set k S) = bit (number S) v ≡ false
-Lacks v Nothing = Unit {0}
+abbrev pub Lacks : ℕ → prelude.Option Best → Type 0
+Lacks v (Some b) = bit (number b.set) v ≡ false
+Lacks v None = Unit {0}
 
 -- the answer for the tree t
-pub record Told (c : ℕ → ℕ) (n : ℕ) (t : Tree) (r : Best) : Type 0 where
+pub record Told (c : ℕ → ℕ) (n : ℕ) (t : Tree) (r : prelude.Option Best) : Type 0 where
   pub set : set_of r ≡ best c n t
   pub priced : Priced c n r
 
 -- the lighter of two, at whatever costs the answers were found
-abbrev pub LighterPromise : Best → Best → Best → Type 0
+abbrev pub LighterPromise : prelude.Option Best → prelude.Option Best → prelude.Option Best → Type 0
 LighterPromise a b r = (c : ℕ → ℕ) (n : ℕ) → Priced c n a → Priced c n b → (set_of r ≡ lighter c n (set_of a) (set_of b)) × Priced c n r
 
 -- ---- the memo of that walk
@@ -100,38 +88,25 @@ pub record Weighed (c : ℕ → ℕ) (n : ℕ) (t : Tree) (k S : ℕ) : Type 0 w
 abbrev pub BestMemo : (ℕ → ℕ) → ℕ → List ℕ → List ℕ → Type 0
 BestMemo c n ws ms = (i : ℕ) (t : Tree) → Stands ws (code_in (get_or ms (2 * i) 0)) t → Weighed c n t (cost_in (get_or ms (2 * i) 0)) (get_or ms (2 * i + 1) 0)
 
--- a cost that can be packed
-abbrev pub Small : Best → Type 0
-Small (Set k S) = k < 2 ^ 40
-Small Nothing = Unit {0}
-
-abbrev pub Recalled : List ℕ → ℕ → Best → Type 0
-Recalled ms code (Set k S) = (c : ℕ → ℕ) (n : ℕ) (ws : List ℕ) → BestMemo c n ws ms → (t : Tree) → Stands ws code t → Told c n t (Set k S)
-Recalled ms code Nothing = Unit {0}
+abbrev pub Recalled : List ℕ → ℕ → prelude.Option Best → Type 0
+Recalled ms code (Some b) = (c : ℕ → ℕ) (n : ℕ) (ws : List ℕ) → BestMemo c n ws ms → (t : Tree) → Stands ws code t → Told c n t (Some b)
+Recalled ms code None = Unit {0}
 
 abbrev pub Remembered : List ℕ → List ℕ → ℕ → Best → Type 0
-Remembered ms ms' code r = (c : ℕ → ℕ) (n : ℕ) (ws : List ℕ) → BestMemo c n ws ms → ((t : Tree) → Stands ws code t → Told c n t r) → BestMemo c n ws ms'
+Remembered ms ms' code b = (c : ℕ → ℕ) (n : ℕ) (ws : List ℕ) → BestMemo c n ws ms → ((t : Tree) → Stands ws code t → Told c n t (Some b)) → BestMemo c n ws ms'
 
 -- ---- the walk
 
 -- the code stands for an ordered tree of the flip-flops that have costs
 pub record Standing (ws costs : List ℕ) (code : ℕ) : Type 0 where
-  pub small : length ws ≤ 65536
-  pub few : length costs ≤ 64
   pub tree : Tree
   pub stands : Stands ws code tree
   pub ordered : Ordered 0 tree
   pub under : Under (length costs) tree
 
--- and the memo is right
-pub record Walkable (ws ms costs : List ℕ) (code : ℕ) : Type 0 where
-  pub standing : Standing ws costs code
-  pub pairs : 2 ≤ length ms
-  pub memo : BestMemo (cost_of costs) (length costs) ws ms
-
-pub record Walked (ws ms costs : List ℕ) (code : ℕ) (r : Best) : Type 0 where
-  pub told : (t : Tree) → Stands ws code t → Told (cost_of costs) (length costs) t r
-  pub memo : BestMemo (cost_of costs) (length costs) ws ms
+-- the answer for whatever the code stands for
+abbrev pub Walked : List ℕ → List ℕ → ℕ → prelude.Option Best → Type 0
+Walked ws costs code r = (t : Tree) → Stands ws code t → Told (cost_of costs) (length costs) t r
 
 -- S is the best set of what the code stands for, if there is one
 abbrev pub LightestPromise : List ℕ → List ℕ → ℕ → ℕ → Type 0

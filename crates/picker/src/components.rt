@@ -1,68 +1,62 @@
 // The lightest set that meets every loop of a graph, by its components.
-ghost use Rattle.std.specs.Prelude.{length};
+ghost use Rattle.std.specs.Prelude.{◌≡◌, ◌≤◌, length};
 ghost use Rattle.masks.specs.Sets.{number};
-ghost use Rattle.graphs.specs.Graph.{edge};
-ghost use Rattle.graphs.specs.Components.{Component};
-ghost use Rattle.picker.specs.Work.{Pickable, SetPromise, GraphPromise};
+ghost use Rattle.picker.specs.Work.{SetPromise, GraphPromise};
 
 use super::best::lightest;
-use cycles::{Cycle, build_component};
-use graphs::{component_around, next_component, reach_rows};
-use masks::{Mask, Vertex};
+use cycles::build_component;
+use graphs::{Block, Part, Refusal};
+use masks::Mask;
+use nodes::{Full, Nodes};
 
-// The set and the largest need; or the lowest flip-flop of the first component that doesn't fit the room.
-#[derive(Drop)]
-pub enum Found {
-    Set(Mask, usize),
-    TooLarge(Vertex),
+// A lightest set, and the largest need on the way to it.
+#[derive(Clone, Copy)]
+pub struct Found {
+    pub set: Mask,
+    pub need: usize,
 }
 
-// The lightest sets of all components together.
-pub fn graph_set(rows: &[u64], costs: &[u32], nodes: &mut [u64], memo: &mut [u64]) -> Found
-    requires { Pickable rows.now costs.now nodes.old memo.old }
-    ensures { GraphPromise rows.now costs.now (length nodes.old) result }
+// The lightest sets of all components together, or refusal 4 for the first component that doesn't fit the room. A question in `cycles` goes from component to
+// component like this too; what it asks of one and keeps of the answer is all of its loop, so a walk for both would be no shorter.
+pub fn graph_set(block: Block, nodes: &mut [u64], memo: &mut [u64]) -> Result<Found, Refusal>
+    requires small { length nodes.old ≤ 65536 }
+    requires pairs { 2 ≤ length memo.old }
+    ensures { GraphPromise block.entry.graph.rows.now block.entry.costs.now (length nodes.old) result }
 {
-    let n = rows.len();
-    let reached = reach_rows(rows);
     let mut set = Mask::none();
     let mut need = 0;
-    let mut v = next_component(&reached, n, 0);
-    while v < n {
-        let part = component_set(
-            rows,
-            costs,
-            component_around(&reached, Vertex(v)),
-            nodes,
-            memo,
-        );
-        let Found::Set(lightest, used) = part else {
-            return part;
+    for part in block.graph.components() {
+        // by `let .. else`, as there
+        let Ok(found) = component_set(part, block.costs, nodes, memo) else {
+            return Err(Refusal::RoomTooSmall {
+                component: part.lowest.0,
+            });
         };
-        set = set.join(lightest);
-        if need < used {
-            need = used;
-        }
-        v = next_component(&reached, n, v + 1);
+        set = set.join(found.set);
+        need = need.max(found.need);
     }
-    Found::Set(set, need)
+    Ok(Found { set, need })
 }
 
-// One component, with its need.
+// One component, with its need. The rooms are lent apart, since the nodes are read while the memo is written, and the memo is a `Memo` only once it is emptied.
 fn component_set(
-    rows: &[u64],
+    part: Part,
     costs: &[u32],
-    members: Mask,
     nodes: &mut [u64],
     memo: &mut [u64],
-) -> Found
-    requires { Pickable rows.now costs.now nodes.old memo.old × Component (edge rows.now) (number members) }
-    ensures { SetPromise rows.now costs.now (number members) (length nodes.old) result }
+) -> Result<Found, Full>
+    requires even { length costs.now ≡ length part.graph.rows.now }
+    requires small { length nodes.old ≤ 65536 }
+    requires pairs { 2 ≤ length memo.old }
+    ensures { SetPromise part.entry.graph.rows.now costs.now (number part.entry.members) (length nodes.old) result }
 {
-    let built = build_component(rows, members, nodes, memo);
-    let Cycle::Within(words, function) = built else {
-        return Found::TooLarge(Vertex(members.next_member(0)));
+    let built = build_component(part, nodes, memo)?;
+    let room = Nodes {
+        words: &nodes[..built.words],
     };
-    let room = &nodes[..words];
-    let set = lightest(room, memo, function, costs);
-    Found::Set(set, nodes::used(room))
+    let set = lightest(room, memo, built.function, costs);
+    Ok(Found {
+        set,
+        need: room.used(),
+    })
 }

@@ -1,14 +1,50 @@
-// The memo room of the walk to the lightest set, two words for a node: its code above the 40 bits of its best set's cost, and the set, which is read and
-// written as a row is. Everything is divided by powers of two only.
-ghost use Rattle.std.specs.Prelude.{◌≤◌, ◌<◌, ◌^◌, length};
-ghost use Rattle.picker.specs.Work.{Small, Recalled, Remembered};
+// The memo room of the walk to the lightest set, two words for a node: its code above the 40 bits of its best set's cost, and the set.
+ghost use Rattle.std.specs.Prelude.{◌≡◌, ◌≤◌, ◌<◌, ◌^◌, length};
+ghost use Rattle.picker.specs.Work.{Recalled, Remembered};
 
 use super::best::Best;
-use masks::{Mask, Vertex};
+use masks::Mask;
 use nodes::Node;
 
-// 2^40, above every cost of a set.
-const COSTS: u64 = 0x100_0000_0000;
+// The bits of a cost: 2^40 is above every cost of a set.
+const BITS: u32 = 40;
+
+// What is remembered of nodes, in a room for one node at least.
+#[derive(Drop)]
+pub struct Memo<'a> {
+    pub words: &'a mut [u64],
+    ghost pairs: { 2 ≤ length words.now },
+}
+
+impl<'a> Memo<'a> {
+    // The best set of a node, if it is remembered.
+    pub fn recall(&self, node: Node) -> Option<Best>
+        requires { node.0 < 2 ^ 17 }
+        ensures { Recalled self.now.words.now node.0 result }
+    {
+        let at = 2 * pair(self.words.len() / 2, node);
+        let word = self.words[at];
+        if word >> BITS != node.0 {
+            return None;
+        }
+        Some(Best {
+            cost: word & ((1 << BITS) - 1),
+            set: Mask::of(self.words[at + 1]),
+        })
+    }
+
+    // The best set of a node is kept, in place of what its words held.
+    pub fn remember(&mut self, node: Node, best: Best)
+        requires code { node.0 < 2 ^ 17 }
+        requires small { best.cost < 2 ^ 40 }
+        ensures same { self.new.words.ghost_name ≡ self.old.words.ghost_name }
+        ensures kept { Remembered self.old.words.now self.new.words.now node.0 best }
+    {
+        let at = 2 * pair(self.words.len() / 2, node);
+        self.words[at] = (node.0 << BITS) | best.cost;
+        self.words[at + 1] = best.set.word();
+    }
+}
 
 // Which of so many pairs of words a node has: its own where there are enough, else one that it shares.
 fn pair(pairs: usize, node: Node) -> usize
@@ -19,31 +55,6 @@ fn pair(pairs: usize, node: Node) -> usize
     if code < pairs {
         return code;
     }
-    let mixed = code * 0x9e37_79b1 % 0x1_0000_0000;
-    mixed * pairs / 0x1_0000_0000
-}
-
-// The best set of a node, if it is remembered.
-pub fn recall(memo: &[u64], node: Node) -> Best
-    requires { (2 ≤ length memo.now) × (node.0 < 2 ^ 17) }
-    ensures { Recalled memo.now node.0 result }
-{
-    let at = 2 * pair(memo.len() / 2, node);
-    let w = memo[at];
-    if w / COSTS == node.0 {
-        return Best::Set(w % COSTS, Mask::row(memo, Vertex(at + 1)));
-    }
-    Best::Nothing
-}
-
-// What is found of a node is kept, in place of what its words held.
-pub fn remember(memo: &mut [u64], node: Node, best: Best)
-    requires { (2 ≤ length memo.old) × (node.0 < 2 ^ 17) × Small best }
-    ensures { Remembered memo.old memo.new node.0 best }
-{
-    if let Best::Set(cost, set) = best {
-        let at = 2 * pair(memo.len() / 2, node);
-        memo[at] = node.0 * COSTS + cost;
-        set.set_row(memo, Vertex(at + 1));
-    }
+    let mixed = (code * 0x9e37_79b1) & 0xffff_ffff;
+    (mixed * pairs) >> 32
 }

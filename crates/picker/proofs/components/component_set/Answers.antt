@@ -1,19 +1,19 @@
 -- The walk finds the lightest set where the cycle function stands, and the words in use there are the need.
-use Rattle.std.proofs.Common.{arith}
-use Rattle.picker.proofs.OneComponent.{standing, set-right, set-too-large}
+use Rattle.std.proofs.Common.{subst}
+use Rattle.masks.specs.Sets.{number}
+use Rattle.graphs.proofs.Whole.{part-component}
+use Rattle.nodes.proofs.Ordering.{plain-table}
+use Rattle.picker.specs.Work.{SetRight}
+use Rattle.picker.proofs.OneComponent.{set-right}
 use Rattle.picker.proofs.components.component_set.Goals as goal
 
-pub returns-in_default : goal.returns-in_default
-returns-in_default c =
-    let b = c.build_component-built in
-    set-too-large c.requires.0 c.requires.1 b.new.nodes b.auto.nodes b.ensures _ c.in_default.is c.next_member.ensures
-
-pub lightest-set-requires : goal.lightest-set-requires
-lightest-set-requires c =
-    let b = c.build_component-built in
-    (standing c.requires.0 c.requires.1 b.new.nodes b.auto.nodes b.ensures _ _ c.in-Within.is, omega (arith, c.requires.0.pairs, b.auto.memo))
+pub invariant_of-room : goal.invariant_of-room
+invariant_of-room c = record { table = plain-table c.in_ok-built.ensures.1.table }
 
 pub returns : goal.returns
 returns c =
-    let b = c.build_component-built in
-    set-right c.requires.0 c.requires.1 b.new.nodes b.auto.nodes b.ensures _ _ c.in-Within.is _ _ c.lightest-set.ensures c.used.ensures
+    let part = c.args.part in
+    subst (λ k. SetRight part.graph.rows.now c.args.costs.now (number part.members) k (number c.lightest-set.result) c.used.result)
+    c.build_component.auto.nodes
+    (set-right part.graph.rows.now c.args.costs.now c.build_component.new.nodes _ _ _ part.graph.sound c.requires.even (part-component part) c.in_ok-built.ensures
+    _ _ c.lightest-set.ensures c.used.ensures)
