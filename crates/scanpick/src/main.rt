@@ -4,8 +4,6 @@
 ghost use Rattle.std.specs.Prelude.{◌≤◌, ◌<◌, IfOk, length, take};
 ghost use Rattle.std.specs.Io.KnownBytes.{Consumes, IsAtEnd};
 
-use blockfile::Reading;
-use graphs::Refusal;
 use masks::Mask;
 use picker::Picked;
 use std::io::{self, Read};
@@ -17,16 +15,16 @@ fn main(rt: HostRuntime) -> io::Result<()> {
     let mut costs = [0u32; 64];
     let mut rows = [0u64; 64];
     let read = blockfile::read(&file[..length], &mut costs, &mut rows);
-    let Reading::Block(n) = read else {
-        if let Reading::Refused(refusal) = read {
-            return show_refusal(&rt, refusal);
-        }
-        return Ok(());
+    // the refusal of a block that is none is printed in the else branch, and the program stops there
+    let Ok(n) = read else {
+        let refusal = read.unwrap_err();
+        return println!(rt; "{refusal}");
     };
     show_pick(&rt, &rows[..n], &costs[..n])
 }
 
-// Reads until the buffer is full or the input ends, and says how many bytes the buffer has of it.
+// Reads until the buffer is full or the input ends, and says how many bytes the buffer has of it. The loop stands here since no function of std does the
+// same without a heap: `read_exact` does not tell how much it read of a short input, and `copy` promises nothing of its count where the input is not known.
 fn read_full<R: Read>(input: &mut R, file: &mut [u8]) -> io::Result<usize>
     ensures bound { IfOk result (λ n. n ≤ length file.new) }
     ensures bytes { IfOk result (λ n. Consumes (R.remaining input.old) (R.remaining input.new) (take n file.new)) }
@@ -43,32 +41,22 @@ fn read_full<R: Read>(input: &mut R, file: &mut [u8]) -> io::Result<usize>
     Ok(length)
 }
 
-// The picked set, one line a member.
+// The picked set, or the refusal.
 fn show_pick(rt: &impl Print, rows: &[u64], costs: &[u32]) -> io::Result<()> {
     let mut nodes = [0u64; 4096];
     let mut memo = [0u64; 4096];
-    let picked = picker::pick(rows, costs, &mut nodes, &mut memo);
-    let Picked::Set(set, cost, _) = picked else {
-        if let Picked::Refused(refusal) = picked {
-            return show_refusal(rt, refusal);
-        }
-        return Ok(());
-    };
-    let count = set.count();
-    println!(rt; "cost {cost}")?;
-    println!(rt; "count {count}")?;
-    show_members(rt, set)
+    match picker::pick(rows, costs, &mut nodes, &mut memo) {
+        Ok(Picked { set, cost, .. }) => show_set(rt, set, cost),
+        Err(refusal) => println!(rt; "{refusal}"),
+    }
 }
 
-fn show_members(rt: &impl Print, set: Mask) -> io::Result<()> {
-    let mut v = set.next_member(0);
-    while v < 64 {
-        println!(rt; "scan {v}")?;
-        v = set.next_member(v + 1);
+// What the set costs, how many it has, and a line for each member.
+fn show_set(rt: &impl Print, set: Mask, cost: u64) -> io::Result<()> {
+    println!(rt; "cost {cost}")?;
+    println!(rt; "count {}", set.count())?;
+    for v in set.members() {
+        println!(rt; "scan {}", v.0)?;
     }
     Ok(())
-}
-
-fn show_refusal(rt: &impl Print, refusal: Refusal) -> io::Result<()> {
-    println!(rt; "refused {} {}", refusal.number, refusal.place)
 }

@@ -1,12 +1,12 @@
 -- Any two results that a promise for C allows are equal, numbers and buffers alike: from what each operation's promise says of two answers. Assumes nothing.
 use mathlib.Core.Path.{◌≡◌, sym, ap, ◌∙◌}
-use mathlib.Core.List.{List, map}
+use mathlib.Core.List.{List}
 use Prim.Native.Nat.{ℕ}
 use Rattle.reduction.proofs.Unique.{reduce-unique}
 use Rattle.cycles.proofs.Asks.{ask-unique}
 use Rattle.picker.proofs.Unique.{pick-unique}
 use Rattle.blockfile.proofs.Unique.{read-unique, write-unique}
-use Rattle.scanpick_c.specs.Promise.{pick_words, ask_words, reduce_words, read_words, write_words, step_word}
+use Rattle.scanpick_c.specs.Promise.{pick_words, ask_words, reduce_words, read_words, write_words, steps_words, left_words}
 use Rattle.scanpick_c.specs.Promise.{PickGives, AskGives, ReduceGives, ReadGives, WriteGives}
 
 -- the same answer gives the same numbers
@@ -29,7 +29,7 @@ pub reduce-gives-unique : (rows costs : List ℕ) (limit : ℕ) (out₁ steps₁
     → ReduceGives rows costs limit out₂ steps₂ left₂ → (out₁ ≡ out₂) × (steps₁ ≡ steps₂) × (left₁ ≡ left₂)
 reduce-gives-unique rows costs limit out₁ steps₁ left₁ out₂ steps₂ left₂ p q =
     let e : p.answer ≡ q.answer = reduce-unique rows costs limit p.answer q.answer p.promised q.promised in
-    (same reduce_words e p.words q.words, same (λ r. map step_word r.steps) e p.made q.made, same (λ r. r.rows) e p.still q.still)
+    (same reduce_words e p.words q.words, same steps_words e p.made q.made, same left_words e p.still q.still)
 
 pub read-gives-unique : (file costs rows costs₁ rows₁ out₁ costs₂ rows₂ out₂ : List ℕ) → ReadGives file costs rows costs₁ rows₁ out₁
     → ReadGives file costs rows costs₂ rows₂ out₂ → (costs₁ ≡ costs₂) × (rows₁ ≡ rows₂) × (out₁ ≡ out₂)

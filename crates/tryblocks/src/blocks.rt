@@ -1,21 +1,57 @@
-// The blocks that are tried, as rows.
+// The blocks that are tried.
 ghost use Rattle.std.specs.Prelude.{◌≤◌, ◌<◌};
 
 use masks::{Mask, Vertex};
 
-// Each has an edge to the next, the last to the first; in a two-way ring also one back.
-pub fn ring(n: usize, both_ways: bool) -> [u64; 64]
-    requires { (0 < n) × (n ≤ 64) }
-{
-    let mut rows = [0u64; 64];
-    let mut before = n - 1;
-    for v in 0..n {
-        let mut row = Mask::none().put(Vertex(after(v, n)));
-        if both_ways {
-            row = row.put(Vertex(before));
+// A block: the first n rows and costs. There is place for one flip-flop more than any operation takes.
+#[derive(Drop)]
+pub struct Trial {
+    pub n: usize,
+    pub rows: [u64; 65],
+    pub costs: [u32; 65],
+    ghost few: { n ≤ 65 },
+}
+
+impl Trial {
+    // These rows, and a cost of 1 each.
+    pub fn ones(n: usize, rows: [u64; 65]) -> Trial
+        requires { n ≤ 65 }
+    {
+        Trial {
+            n,
+            rows,
+            costs: [1; 65],
         }
-        row.set_row(&mut rows, Vertex(v));
-        before = v;
+    }
+}
+
+// Each has an edge to the next, the last to the first.
+pub fn ring(n: usize) -> Trial
+    requires { n ≤ 64 }
+{
+    Trial::ones(n, ring_rows(n))
+}
+
+// A ring, and each has an edge to the one before as well.
+pub fn two_way_ring(n: usize) -> Trial
+    requires { n ≤ 64 }
+{
+    let mut rows = ring_rows(n);
+    for v in 0..n {
+        let next = Vertex(after(v, n));
+        let row = Mask::row(&rows, next).put(Vertex(v));
+        row.set_row(&mut rows, next);
+    }
+    Trial::ones(n, rows)
+}
+
+fn ring_rows(n: usize) -> [u64; 65]
+    requires { n ≤ 64 }
+{
+    let mut rows = [0u64; 65];
+    for v in 0..n {
+        let next = Mask::none().put(Vertex(after(v, n)));
+        next.set_row(&mut rows, Vertex(v));
     }
     rows
 }
@@ -31,35 +67,24 @@ fn after(v: usize, n: usize) -> usize
 }
 
 // Edges from each of n to every other.
-pub fn all_edges(n: usize) -> [u64; 64]
+pub fn all_edges(n: usize) -> Trial
     requires { n ≤ 64 }
 {
-    let mut rows = [0u64; 64];
+    let mut rows = [0u64; 65];
     for v in 0..n {
         Mask::below(n).cut(Vertex(v)).set_row(&mut rows, Vertex(v));
     }
-    rows
+    Trial::ones(n, rows)
 }
 
 // 32 pairs, v and v + 32, with edges both ways.
-pub fn pairs() -> [u64; 64] {
-    let mut rows = [0u64; 64];
-    for v in 0..32 {
-        Mask::none()
-            .put(Vertex(v + 32))
-            .set_row(&mut rows, Vertex(v));
-        Mask::none()
-            .put(Vertex(v))
-            .set_row(&mut rows, Vertex(v + 32));
+pub fn pairs() -> Trial {
+    let mut rows = [0u64; 65];
+    for v in 0..64 {
+        let other = Mask::none().put(Vertex((v + 32) % 64));
+        other.set_row(&mut rows, Vertex(v));
     }
-    rows
-}
-
-// Rows and costs together.
-#[derive(Drop)]
-pub struct Trial {
-    pub rows: [u64; 64],
-    pub costs: [u32; 64],
+    Trial::ones(64, rows)
 }
 
 // A block in which the last of k passes still changes a member of B. B is a chain, cut into groups of four, each with a cheap flip-flop x in front (0, 5, 10
@@ -67,17 +92,17 @@ pub struct Trial {
 pub fn chain(n: usize) -> Trial
     requires { n ≤ 62 }
 {
-    let mut rows = [0u64; 64];
-    let mut costs = [0u32; 64];
+    let mut rows = [0u64; 65];
+    let mut costs = [0u32; 65];
     for v in 0..n {
         chain_row(v, n).set_row(&mut rows, Vertex(v));
         costs[v] = chain_cost(v, n);
     }
-    Trial { rows, costs }
+    Trial { n, rows, costs }
 }
 
-// Each leads to the next. The last of a group also leads past the next x, on along the chain, and 0 to 2. Each of B leads back to an x. No edge leads out of
-// the block.
+// Row v of a chain of n; a type for that pair would be longer than the two functions that take it. Each leads to the next. The last of a group also leads past
+// the next x, on along the chain, and 0 to 2. Each of B leads back to an x. No edge leads out of the block.
 fn chain_row(v: usize, n: usize) -> Mask
     requires { (v < n) × (n ≤ 62) }
 {

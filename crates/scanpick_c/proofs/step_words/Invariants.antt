@@ -1,11 +1,7 @@
--- The words passed are those of the steps. Assumes nothing.
-use Rattle.std.proofs.Common.{◌-◌, get_or, map}
-use Rattle.reduction.proofs.Stores.{Stored}
+-- The words passed are those of the steps passed.
+use Rattle.std.proofs.Common.{◌≡◌, length, map, take}
 use Rattle.scanpick_c.specs.Promise.{step_word}
 use Rattle.scanpick_c.proofs.step_words.Given as goal
 
 abbrev pub invariant-loop-i : goal.invariant-loop-i
-invariant-loop-i l = Stored (λ k. get_or (map step_word l.steps) k 0) l.initial.words l.i l.words
-
-abbrev pub decreases-loop-i : goal.decreases-loop-i
-decreases-loop-i l = 64 - l.i
+invariant-loop-i l = (length l.words ≡ 64) × (take l.i l.words ≡ map step_word (take l.i l.fn.steps))
