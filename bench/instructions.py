@@ -22,13 +22,18 @@ def read(path):
     return own, calls
 
 
+def joins_here(function):
+    """Whether it is one of the two functions that join by calling each other, under either of the two operations."""
+    return "::Rooms::join" in function or "::Rooms::descend" in function
+
+
 def main():
     once, thrice, need, block = sys.argv[1:]
     (own1, calls1), (own3, calls3) = read(once), read(thrice)
     own = {f: (own3[f] - own1[f]) / 2 for f in own3 if own3[f] > own1[f]}
     total = sum(own.values())
-    joins = sum(calls3[f] - calls1[f] for f in calls3 if "::join" in f) / 2
-    joining = sum(cost for f, cost in own.items() if "::join" in f)
+    joins = sum(calls3[f] - calls1[f] for f in calls3 if joins_here(f)) / 2
+    joining = sum(cost for f, cost in own.items() if joins_here(f))
     print(f"{block}: {total:,.0f} instructions a pick")
     if int(need):
         print(f"    {int(need):,} nodes made, {total / int(need):.1f} instructions of the whole for each")
