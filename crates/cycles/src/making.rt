@@ -78,7 +78,7 @@ fn build(part: Part, rooms: &mut Rooms) -> Result<Node, Full>
     ensures built { BuildPromise (edge part.entry.graph.rows.now) (length part.entry.graph.rows.now) (number part.entry.members) rooms.new.nodes.now result }
 {
     let order = search_component(part);
-    let from = sources(part);
+    let from = sources(part.graph.rows, part.members);
     let variables = make_variables(rooms, part.members)?;
     let wiring = Wiring {
         order: &order,

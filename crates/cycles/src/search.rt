@@ -1,5 +1,5 @@
 // The depth-first search of a component.
-ghost use Rattle.std.specs.Prelude.{◌≡◌, ℕ, ◌<◌, T, length, get_or};
+ghost use Rattle.std.specs.Prelude.{◌≡◌, ℕ, ◌≤◌, ◌<◌, T, length, get_or};
 ghost use Rattle.masks.specs.Sets.{bit, number};
 ghost use Rattle.graphs.specs.Graph.{edge};
 ghost use Rattle.graphs.specs.Components.{inside};
@@ -79,15 +79,15 @@ pub fn search_component(part: Part) -> Order
 }
 
 // The in-neighbours of each member inside the component, as rows.
-pub fn sources(part: Part) -> [u64; 64]
+pub fn sources(rows: &[u64], members: Mask) -> [u64; 64]
+    requires few { length rows.now ≤ 64 }
+    requires within { (u : ℕ) → T (bit (number members) u) → u < length rows.now }
     ensures long { length result ≡ 64 }
-    ensures incoming { (v u : ℕ) → bit (get_or result v 0) u ≡ inside (edge part.entry.graph.rows.now) (number part.entry.members) u v }
+    ensures incoming { (v u : ℕ) → bit (get_or result v 0) u ≡ inside (edge rows.now) (number members) u v }
 {
     let mut found = [0u64; 64];
-    for v in part.members.members() {
-        holders(part.graph.rows, part.members, v)
-            .cut(v)
-            .set_row(&mut found, v);
+    for v in members.members() {
+        holders(rows, members, v).cut(v).set_row(&mut found, v);
     }
     found
 }

@@ -8,15 +8,16 @@ use Rattle.graphs.specs.declared.component.Part.{Part}
 unfoldable pub around : ℕ → (ℕ → ℕ → Bool) → ℕ → ℕ
 around n reach v = those n (λ w. reach v w && reach w v)
 
--- v is the lowest of its set
+-- v is in the set around it, and none below it is: v is the lowest of a component
 unfoldable pub leads : ℕ → (ℕ → ℕ → Bool) → ℕ → Bool
 leads n reach v = bit (around n reach v) v && eqb (those v (bit (around n reach v))) 0
 
--- the sets of those that lead, of k flip-flops from v on
+-- C before the others, where a test holds
 abbrev pub add : Bool → ℕ → List ℕ → List ℕ
 add true C Cs = C ∷ Cs
 add false C Cs = Cs
 
+-- the sets around those that lead, of k flip-flops from v on
 unfoldable pub leading : ℕ → (ℕ → ℕ → Bool) → ℕ → ℕ → List ℕ
 leading n reach zero v = []
 leading n reach (suc k) v = add (leads n reach v) (around n reach v) (leading n reach k (suc v))

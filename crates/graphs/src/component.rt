@@ -78,6 +78,7 @@ impl<'a> Iterator for EachPart<'a> {
 }
 
 // The lowest flip-flop at or above from that is the lowest of a component, or None where there is none.
+// By `for`, since of a `find` over the numbers from `from` on the proof doesn't close.
 pub fn next_component(reached: &[u64; 64], n: usize, from: usize) -> Option<Vertex>
     requires { n ≤ 64 }
     ensures { (E : ℕ → ℕ → Bool) → Reaching E reached.now → NextComponent E n from result }

@@ -86,10 +86,10 @@ pub fn empty(nodes: &mut [u64])
 }
 
 // Calls `work` with a memo that is long enough: the lent one, or, where that is short, a local one, which is empty. The answer is one that it gives with some
-// memo; what the lent one holds afterwards is left open.
+// memo of so many words; what the lent one holds afterwards is left open.
 pub fn with_memo<R, F: FnOnce(&mut [u64]) -> R>(memo: &mut [u64], work: F) -> R
     requires { (lent : MutBor (List ℕ)) → MEMO ≤ length lent.now → F.pre work lent }
-    ensures { (lent : MutBor (List ℕ)) × (left : MutBor (List ℕ)) × F.post work lent result left }
+    ensures { (lent : MutBor (List ℕ)) × (left : MutBor (List ℕ)) × (MEMO ≤ length lent.now) × F.post work lent result left }
 {
     if memo.len() < MEMO {
         let mut own = [0u64; MEMO];

@@ -42,7 +42,7 @@ impl<'a> Nodes<'a> {
         look(self.words, c)
     }
 
-    // The function's value where exactly `kept` is kept.
+    // The function's value where exactly `kept` is kept: down its tree, a decision at a time, until a constant is met.
     pub fn value(self, c: Node, kept: Mask) -> bool
         requires { Held self.words.now 0 c.0 }
         ensures { ValuePromise self.entry.words.now c.0 (number kept) result }

@@ -15,7 +15,7 @@ fn main(rt: HostRuntime) -> io::Result<()> {
     let mut costs = [0u32; 64];
     let mut rows = [0u64; 64];
     let read = blockfile::read(&file[..length], &mut costs, &mut rows);
-    // the refusal of a block that is none is printed in the else branch, and the program stops there
+    // as the rules have it, by `let .. else`: a refusal is printed in the else branch, and the program stops there
     let Ok(n) = read else {
         let refusal = read.unwrap_err();
         return println!(rt; "{refusal}");

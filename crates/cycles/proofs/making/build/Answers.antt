@@ -1,7 +1,10 @@
 -- The search and the sources, the variables, the passes, and the OR over B.
 use Rattle.graphs.proofs.Whole.{part-component}
-use Rattle.cycles.proofs.Builds.{inner-flops, variables-full, first-ready, passes-full, last-shown, build-done}
+use Rattle.cycles.proofs.Builds.{members-in, inner-flops, variables-full, first-ready, passes-full, last-shown, build-done}
 use Rattle.cycles.proofs.making.build.Goals as goal
+
+pub sources-from-requires-clause-within : goal.sources-from-requires-clause-within
+sources-from-requires-clause-within c = λ u t. members-in _ _ c.args.part.graph.sound (part-component c.args.part) u t
 
 pub returns-in_err-variables-clause-built : goal.returns-in_err-variables-clause-built
 returns-in_err-variables-clause-built c =

@@ -1,14 +1,10 @@
-use Rattle.std.proofs.Common.{◌∙◌, rules}
-use Rattle.graphs.proofs.Whole.{part-component}
-use Rattle.cycles.proofs.Builds.{members-in}
+-- Each member that came has its in-neighbours in its row.
+use Rattle.std.proofs.Common.{◌∙◌}
 use Rattle.cycles.proofs.Incoming.{set_first, set_more, set_all}
 use Rattle.cycles.proofs.search.sources.Goals as goal
 
 pub loop-v-init : goal.loop-v-init
 loop-v-init c = set_first _ _ _ (c.into_iter-v-iterator.ensures.into_iter_gives ∙ c.members-v-items.ensures)
-
-pub holders-requires : goal.holders-requires
-holders-requires c = let part = c.args.part in (search rules, part.graph.sound.few, λ u l t. members-in _ _ part.graph.sound (part-component part) u t)
 
 pub loop-v-preserved : goal.loop-v-preserved
 loop-v-preserved c =

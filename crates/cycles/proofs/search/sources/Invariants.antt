@@ -4,4 +4,4 @@ use Rattle.cycles.proofs.Incoming.{Setting}
 use Rattle.cycles.proofs.search.sources.Given as goal
 
 abbrev pub invariant-loop-v : goal.invariant-loop-v
-invariant-loop-v l = Setting l.part.graph.rows.now (number l.part.members) l.v-iterator l.found
+invariant-loop-v l = Setting l.rows (number l.members) l.v-iterator l.found
