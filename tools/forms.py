@@ -109,7 +109,7 @@ for users in twins.values():
         places['2 functions of one shape'].append(', '.join(users))
 
 # 6. Arrays and a number of what they hold; two arrays or slices by one index.
-each('6a arrays of a fixed length', r'\[\w+; (64|\d{3,}|MEMO)\]', CLAUSE)
+each('6a arrays of a fixed length', r'\[[\w:]+(\(\d+\))?; (\d{2,}|MEMO)\]', CLAUSE)
 each('6b a number of what an array holds', r'^\s*(pub )?(count|n|length): usize,|, n: usize')
 
 # 7. Switches on which step to run.
