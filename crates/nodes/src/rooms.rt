@@ -86,7 +86,7 @@ impl<'a> Rooms<'a> {
         self.joined::<And>(a, b)
     }
 
-    // A join with a memo that is long enough, unless it needs no steps.
+    // A join with a memo that is long enough, unless it needs no steps. Not by `with_memo`, which promises nothing of what the memo holds afterwards.
     fn joined<C: Connective>(&mut self, a: Node, b: Node) -> Result<Node, Full>
         requires left { Held self.old.nodes.now 0 a.0 }
         requires right { Held self.old.nodes.now 0 b.0 }
