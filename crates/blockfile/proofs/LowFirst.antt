@@ -1,12 +1,14 @@
 -- A number's bytes as std has them, and as the layout has them. Assumes nothing.
-use mathlib.Core.Path.{◌≡◌, refl, sym, ap, ap₂, ◌∙◌}
-use mathlib.Core.List.{List, [], ◌∷◌, ◌++◌, append_assoc}
-use Prim.Native.Nat.{ℕ, zero, suc, ◌+◌, ◌-◌, ◌*◌, ◌/◌, ◌%◌, ◌^◌, ◌≤◌}
-use native.Mathlib.Nat.{pow-suc, div-one, div-div-eq-div-mul}
+use mathlib.Core.Path.{◌≡◌, refl, sym, ap, ap₂, ◌∙◌, subst}
+use mathlib.Core.List.{List, [], ◌∷◌, ◌++◌}
+use Prim.Native.Nat.{ℕ, zero, suc, ◌+◌, ◌-◌, ◌*◌, ◌/◌, ◌%◌, ◌^◌, ◌≤◌, ◌<◌, min}
+use native.Mathlib.Nat.{pow-suc, div-one, div-div-eq-div-mul, div-lt_iff_lt-mul}
 use native.Mathlib.Omega.{arith}
 use borrow.Rule.Slice.PartMut.{put_mid}
-use lib.ListN.{length, take, drop, replicate, length-append, length-replicate}
-use lib.Seq.{paste, drop-drop}
+use lib.ListN.{length, take, drop, replicate, length-append, length-drop, length-replicate}
+use lib.Seq.{paste, length-take-le}
+use Rattle.std.proofs.lemmas.List.Edits.{length-paste, paste-paste}
+use Rattle.std.proofs.lemmas.Slice.{put_mid-paste}
 use Rattle.std.specs.Int.{w64, byte_at, bytes_low_first, from_le_bytes, to_le_bytes}
 use Rattle.blockfile.specs.Layout.{bytes, value}
 
@@ -31,11 +33,42 @@ low-first (suc k) i n =
 pub to_bytes : (n : ℕ) → to_le_bytes w64 n ≡ bytes 8 n
 to_bytes n = low-first 8 0 n ∙ ap (bytes 8) (div-one n)
 
-pub put-paste : (l x b : List ℕ) (at w : ℕ) → x ≡ take w b → put_mid at (at + w - at) l x ≡ paste l at b w
-put-paste l x b at w e =
-    let k : at + (at + w - at) ≡ at + w = omega arith in
-    ap₂ (λ (y t : List ℕ). take at l ++ (y ++ t)) e (drop-drop (at + w - at) at l ∙ ap (λ (j : ℕ). drop j l) k)
-    ∙ sym (append_assoc (take at l) (take w b) (drop (at + w) l))
+bytes-zero : (k x : ℕ) → (0 < k → x < 1) → replicate k 0 ≡ bytes k x
+unfolding bytes
+bytes-zero zero x h = refl
+bytes-zero (suc k) x h = let z : x < 1 = h (omega arith) in ap₂ ◌∷◌ (omega arith) (bytes-zero k (x / 256) (λ p. omega arith))
+
+-- past the bytes that a number needs it has zeros
+bytes-past : (m k x : ℕ) → (0 < k → x < 256 ^ m) → bytes m x ++ replicate k 0 ≡ bytes (m + k) x
+unfolding bytes
+bytes-past zero k x h = bytes-zero k x h ∙ ap (λ (j : ℕ). bytes j x) (omega arith)
+bytes-past (suc m) k x h =
+    let more : suc (m + k) ≡ suc m + k = omega arith in
+    let less : 0 < k → x / 256 < 256 ^ m = λ p. (div-lt_iff_lt-mul (omega arith)).1 (subst (λ y. x < y) (pow-suc 256 m) (h p)) in
+    ap (λ (bs : List ℕ). x % 256 ∷ bs) (bytes-past m k (x / 256) less) ∙ ap (λ (j : ℕ). bytes j x) more
+
+-- so all of its eight bytes, and zeros behind them, are its bytes at any width
+pub low-zeros : (w m n : ℕ) → m ≡ min w 8 → n < 2 ^ 64 → bytes m n ++ replicate (w - m) 0 ≡ bytes w n
+low-zeros w m n e h =
+    let k : m + (w - m) ≡ w = omega arith in
+    bytes-past m (w - m) n (λ p. let f : 8 ≡ m = omega arith in subst (λ j. n < 256 ^ j) f h) ∙ ap (λ (j : ℕ). bytes j n) k
+
+-- xs over the first m places of a part, then zeros over its others
+pub put-zeros : (l xs zs : List ℕ) (at m w : ℕ) → at + w ≤ length l → m ≤ w → length xs ≡ m
+    → let p = put_mid at (at + m - at) l xs in zs ≡ replicate (length (take (at + w - (at + m)) (drop (at + m) p))) 0
+    → put_mid (at + m) (at + w - (at + m)) p zs ≡ paste l at (xs ++ replicate (w - m) 0) w
+put-zeros l xs zs at m w h i e z =
+    let p : List ℕ = put_mid at (at + m - at) l xs in
+    let o : List ℕ = replicate (w - m) 0 in
+    let q : p ≡ paste l at xs m = put_mid-paste at (at + m - at) l xs xs m refl (omega arith) (sym e) in
+    let s : length p ≡ length l = ap length q ∙ length-paste l at xs m (omega arith) (omega arith) in
+    let c : length (take (at + w - (at + m)) (drop (at + m) p)) ≡ w - m =
+    length-take-le (at + w - (at + m)) (drop (at + m) p) (omega (arith, length-drop (at + m) p)) ∙ omega arith in
+    let r : w - m ≡ length o = sym (length-replicate (w - m) 0) in
+    put_mid-paste (at + m) (at + w - (at + m)) p zs o (w - m) (z ∙ ap (λ (j : ℕ). replicate j 0) c) (omega arith) r
+    ∙ ap (λ (d : List ℕ). paste d (at + m) o (w - m)) q
+    ∙ paste-paste l at xs o m (w - m) (sym e) r (omega arith)
+    ∙ ap (paste l at (xs ++ o)) (omega arith)
 
 -- ---- reading
 

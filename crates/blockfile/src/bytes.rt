@@ -21,10 +21,12 @@ fn padded(part: &[u8]) -> [u8; 8]
     bytes
 }
 
-// Puts the number there.
+// Puts the number there: its eight bytes as far as they go, and zeros behind them.
 pub fn put_number(out: &mut [u8], at: usize, width: usize, number: u64)
-    requires { (at + width ≤ length out.old) × (width ≤ 8) }
+    requires { at + width ≤ length out.old }
     ensures { out.new ≡ paste out.old at (bytes width number) width }
 {
-    out[at..at + width].copy_from_slice(&number.to_le_bytes()[..width]);
+    let low = width.min(8);
+    out[at..at + low].copy_from_slice(&number.to_le_bytes()[..low]);
+    out[at + low..at + width].fill(0);
 }
