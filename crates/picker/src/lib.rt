@@ -73,7 +73,7 @@ fn left_set<'a>(
     with_memo(memo, |memo| graph_set(left, nodes, memo))
 }
 
-// What a set costs: the sum of its members' costs.
+// What a set costs: the sum of its members' costs. By the costs, as the definition of the weight goes: a member that has none counts nothing.
 fn cost_of(set: Mask, costs: &[u32]) -> u64
     requires { length costs.now ≤ 64 }
     ensures { result ≡ weight (cost_of costs.now) (length costs.now) (number set) }

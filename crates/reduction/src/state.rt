@@ -48,7 +48,7 @@ impl<'a> State<'a> {
         None
     }
 
-    // The lowest flip-flop that a rule applies to.
+    // The lowest flip-flop that a rule applies to. By the rows, as its definition goes: whether one is live is the first thing that a rule asks of it.
     fn first_for(&self, rule: Rule) -> Option<Vertex>
         ensures { FirstFor rule (cost_of self.now.costs.now) (block_of self.now) result }
     {
