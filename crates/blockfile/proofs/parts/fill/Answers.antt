@@ -6,16 +6,17 @@ use Rattle.blockfile.proofs.Numbers.{numbers-length, numbers-at, octets-drop, pa
 use Rattle.blockfile.proofs.Fills.{Filled, filled_more, filled-all}
 use Rattle.blockfile.proofs.parts.fill.Goals as goal
 
-stands : (w k n v x : ℕ) (part : List ℕ) → k ≡ w → v < n → x ≡ value (take k (drop (k * v) part)) → x ≡ get_or (numbers w n part) v 0
-stands w k n v x part e l h = h ∙ ap (λ (j : ℕ). value (take j (drop (j * v) part))) e ∙ sym (numbers-at w n part v l)
+stands : (w k n v x at : ℕ) (part : List ℕ) → k ≡ w → at ≡ k * v → v < n → x ≡ value (take k (drop at part)) → x ≡ get_or (numbers w n part) v 0
+stands w k n v x at part e f l h =
+    h ∙ ap (λ (j : ℕ). value (take k (drop j part))) f ∙ ap (λ (j : ℕ). value (take j (drop (j * v) part))) e ∙ sym (numbers-at w n part v l)
+
+small : (k x at : ℕ) (part : List ℕ) → ((i : ℕ) → get_or part i 0 < 256) → x ≡ value (take k (drop at part)) → x < 256 ^ k
+small k x at part o h = omega (arith, h, part-lt k (drop at part) (octets-drop at part o))
 
 pub of-requires : goal.of-requires
 of-requires g c =
-    let part = c.args.part.now in
-    let at = c.width-width.result * c.loop-v.v in
-    let h : c.number_at.result < 256 ^ c.width-width.result =
-    omega (arith, c.number_at.ensures, part-lt c.width-width.result (drop at part) (octets-drop at part (λ i. (c.type_inv.part i).fits))) in
-    subst (λ (w : ℕ). c.number_at.result < 256 ^ w) c.width-width.ensures.0 h
+    subst (λ (w : ℕ). c.number_at.result < 256 ^ w) c.width-width.ensures.0
+    (small _ _ _ c.args.part.now (λ i. (c.type_inv.part i).fits) c.number_at.ensures)
 
 -- one number more, found at v
 further : (w v x : ℕ) (part : List ℕ) {A : Type 0} (f : A → ℕ) (y : A) (before found : List A) → f y ≡ x → x ≡ get_or (numbers w (length before) part) v 0
@@ -29,7 +30,7 @@ further w v x part f y before found p q l h =
 pub loop-v-preserved : goal.loop-v-preserved
 loop-v-preserved g c =
     further g.N.Number.width c.loop-v.v c.number_at.result c.args.part.now g.N.Number.value c.of.result c.args.found.now c.loop-v.found c.of.ensures
-    (stands _ _ _ _ _ c.args.part.now c.width-width.ensures.0 c.loop-v-test.true c.number_at.ensures) c.loop-v-test.true c.loop-v.invariant
+    (stands _ _ _ _ _ _ c.args.part.now c.width-width.ensures.0 (grind (arith)) c.loop-v-test.true c.number_at.ensures) c.loop-v-test.true c.loop-v.invariant
 
 pub returns : goal.returns
 returns g c =
