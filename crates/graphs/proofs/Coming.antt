@@ -70,19 +70,19 @@ module _ (rows reached : List ℕ) (sound : Sound rows) (right : Reaching (edge 
       let d : n - v ≡ suc (n - suc v) = omega (arith, l) in
       cc
 
-  -- ---- one that leads, and one that leads none
+  -- ---- what the test of v tells, yes or no, and what makes it tell so
 
-  on : (v : ℕ) → leads n reach v ≡ true → Component E (around n reach v) × Lowest (around n reach v) v
-  on v e = leads_one (around n reach v) (around-exact E n low reach right v) ((leads-iff n reach v).0 (subst T (sym e) tt))
+  test-yes : (v : ℕ) → leads n reach v ≡ true → Component E (around n reach v) × Lowest (around n reach v) v
+  test-yes v e = leads_one (around n reach v) (around-exact E n low reach right v) ((leads-iff n reach v).0 (subst T (sym e) tt))
 
-  on-is : (v : ℕ) → Leads E v true → leads n reach v ≡ true
-  on-is v led = T_true (leads n reach v) ((leads-iff n reach v).1 (led-around (around n reach v) led (around-exact E n low reach right v)).1)
+  yes-test : (v : ℕ) → Leads E v true → leads n reach v ≡ true
+  yes-test v led = T_true (leads n reach v) ((leads-iff n reach v).1 (led-around (around n reach v) led (around-exact E n low reach right v)).1)
 
-  off : (v : ℕ) → leads n reach v ≡ false → Leads E v false
-  off v e = leads-none (around n reach v) (around-exact E n low reach right v) (λ l. subst T e ((leads-iff n reach v).1 l))
+  test-no : (v : ℕ) → leads n reach v ≡ false → Leads E v false
+  test-no v e = leads-none (around n reach v) (around-exact E n low reach right v) (λ l. subst T e ((leads-iff n reach v).1 l))
 
-  off-is : (v : ℕ) → Leads E v false → leads n reach v ≡ false
-  off-is v none = T_false (leads n reach v) (λ t. let led = on v (T_true (leads n reach v) t) in none (around n reach v) led.0 led.1)
+  no-test : (v : ℕ) → Leads E v false → leads n reach v ≡ false
+  no-test v none = T_false (leads n reach v) (λ t. let led = test-yes v (T_true (leads n reach v) t) in none (around n reach v) led.0 led.1)
 
   -- ---- the turns of the loop
 
@@ -91,7 +91,7 @@ module _ (rows reached : List ℕ) (sound : Sound rows) (right : Reaching (edge 
   earlier-none v m e none u C i j p q = go (ℕ_discrete u v)
     where
       go : Dec (u ≡ v) → ⊥
-      go (yes z) = off v e C p (subst (Lowest C) z q)
+      go (yes z) = test-no v e C p (subst (Lowest C) z q)
       go (no z) =
           let z' : u ≢ v = z in
           none u C (omega arith) j p q
@@ -108,7 +108,7 @@ module _ (rows reached : List ℕ) (sound : Sound rows) (right : Reaching (edge 
 
   turn : (v : ℕ) (x : Bool) → v < n → leads n reach v ≡ x → Turn v → Turn (suc v)
   turn v true l e before r next =
-      let led = on v e in
+      let led = test-yes v e in
       let here : IsNextComponent E n v v =
       record { inner = (omega arith, l); leads = (around n reach v, led.0, led.1); passed = λ u C i j p q. absurd (omega arith) } in
       let up : suc v ≡ v + 1 = omega arith in
@@ -135,7 +135,7 @@ module _ (rows reached : List ℕ) (sound : Sound rows) (right : Reaching (edge 
       let q : from ≡ v = omega (arith, e) in
       cc
   passed (suc k) from v e l none =
-      coming-first from false (omega (arith, e, l)) (off-is from (λ C p q. none from C (omega arith) (omega (arith, e)) p q))
+      coming-first from false (omega (arith, e, l)) (no-test from (λ C p q. none from C (omega arith) (omega (arith, e)) p q))
       ∙ passed k (suc from) v (omega (arith, e)) l (λ u C i j p q. none u C (omega arith) j p q)
 
   module _ (m from : ℕ) (is_len : m ≡ n) where
@@ -170,6 +170,6 @@ module _ (rows reached : List ℕ) (sound : Sound rows) (right : Reaching (edge 
       coming-next =
           let more = met-more walking.next below coming-component coming-lowest walking.met in
           let past = passed (v - from) from v (omega (arith, next.inner)) (omega (arith, below)) next.passed in
-          let first = coming-first v true below (on-is v next.leads) in
+          let first = coming-first v true below (yes-test v next.leads) in
           let up : suc v ≡ v + 1 = omega arith in
           cc

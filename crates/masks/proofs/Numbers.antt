@@ -1,10 +1,8 @@
 -- The numbers of masks of the code. Assumes nothing.
-use mathlib.Core.Path.{◌≡◌, refl, sym}
+use mathlib.Core.Path.{◌≡◌, refl}
 use Prim.Native.Nat.{ℕ, ◌<◌}
-use native.Mathlib.Omega.{arith}
-use borrow.Author.Tests.{lt-ltb, le-ltb}
 use lib.Dec.{ltb}
-use Rattle.std.proofs.Common.{Ordering, Less, Equal, Greater}
+use Rattle.std.proofs.slice.Orders.{nat_cmp-ltb}
 use Rattle.std.specs.Ordering.{MatchOrdering, is_lt}
 use Rattle.std.specs.Cmp.{ranks}
 use Rattle.masks.specs.Sets.{number}
@@ -29,9 +27,5 @@ order-number a b = ranks a.0 b.0
 
 -- a mask is less than another where its number is
 pub order-less : (a b : Mask) → is_lt (cmp-value.it a b) ≡ ltb (number a) (number b)
-order-less a b = go (cmp-value.it a b) (order-number a b)
-  where
-    go : (o : Ordering) → MatchOrdering o (number a < number b) (number a ≡ number b) (number b < number a) → is_lt o ≡ ltb (number a) (number b)
-    go Less l = sym (lt-ltb (number a) (number b) l)
-    go Equal e = sym (le-ltb (number a) (number b) (omega (arith, e)))
-    go Greater l = sym (le-ltb (number a) (number b) (omega (arith, l)))
+unfolding number
+order-less a b = nat_cmp-ltb a.0 b.0

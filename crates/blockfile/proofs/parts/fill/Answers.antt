@@ -2,21 +2,23 @@ use Rattle.std.proofs.Common.{◌≡◌, sym, ap, subst, ◌∙◌, ◌+◌, ◌
 use Rattle.std.proofs.lemmas.List.{length-map, map-set}
 use lib.ListN.{drop_of_length-le}
 use Rattle.blockfile.specs.Layout.{value, numbers}
-use Rattle.blockfile.proofs.Numbers.{numbers-length, numbers-at, octets-drop, part-lt}
+use Rattle.blockfile.proofs.Numbers.{Octets, numbers-length, numbers-at, octets-drop, part-lt}
 use Rattle.blockfile.proofs.Fills.{Filled, filled_more, filled-all}
 use Rattle.blockfile.proofs.parts.fill.Goals as goal
 
+-- the number found at v is the one that belongs there
 stands : (w k n v x at : ℕ) (part : List ℕ) → k ≡ w → at ≡ k * v → v < n → x ≡ value (take k (drop at part)) → x ≡ get_or (numbers w n part) v 0
 stands w k n v x at part e f l h =
     h ∙ ap (λ (j : ℕ). value (take k (drop j part))) f ∙ ap (λ (j : ℕ). value (take j (drop (j * v) part))) e ∙ sym (numbers-at w n part v l)
 
-small : (k x at : ℕ) (part : List ℕ) → ((i : ℕ) → get_or part i 0 < 256) → x ≡ value (take k (drop at part)) → x < 256 ^ k
-small k x at part o h = omega (arith, h, part-lt k (drop at part) (octets-drop at part o))
+-- what k bytes tell fits them
+fits : (k x at : ℕ) (part : List ℕ) → Octets part → x ≡ value (take k (drop at part)) → x < 256 ^ k
+fits k x at part o h = omega (arith, h, part-lt k (drop at part) (octets-drop at part o))
 
 pub of-requires : goal.of-requires
 of-requires g c =
     subst (λ (w : ℕ). c.number_at.result < 256 ^ w) c.width-width.ensures.0
-    (small _ _ _ c.args.part.now (λ i. (c.type_inv.part i).fits) c.number_at.ensures)
+    (fits _ _ _ c.args.part.now (λ i. (c.type_inv.part i).fits) c.number_at.ensures)
 
 -- one number more, found at v
 further : (w v x : ℕ) (part : List ℕ) {A : Type 0} (f : A → ℕ) (y : A) (before found : List A) → f y ≡ x → x ≡ get_or (numbers w (length before) part) v 0
